@@ -1,0 +1,4 @@
+pub mod Offsets
+pub mod Readers
+pub mod Possible
+pub mod Laws

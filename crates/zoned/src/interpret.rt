@@ -1,0 +1,169 @@
+// The instant that a request stands for.
+ghost use mathlib.Core.Path.{_≡_};
+ghost use mathlib.Core.Bool.{true};
+ghost use Prim.Native.Nat.{_≤_, _<_};
+ghost use lib.IntN.{pos, natAbs, _-ℤ_};
+ghost use Rattle.std.specs.declared.option.Option.the-variants.{Some, None};
+ghost use Rattle.std.specs.declared.result.Result.the-variants.{Ok};
+ghost use Rattle.calendar.specs.Gregorian.{Real};
+ghost use Rattle.rounding.specs.Rounding.{roundedTo};
+ghost use Rattle.rounding.specs.declared.RoundingMode.the-variants.{HalfExpand};
+ghost use Rattle.zoned.specs.Interpret.{offset-matches, first-match, exactly, matched, local-at, interpreted, Sound, with-nanos};
+use crate::EpochNanosecondsAndOffset;
+use crate::OffsetDisambiguation;
+use crate::Request;
+use crate::TimeZone;
+use crate::ZonedFault;
+use crate::ZonedFromZone;
+use crate::time_zone::day_within;
+use crate::time_zone::disambiguate_possible_epoch_nanos;
+use crate::time_zone::get_epoch_nanoseconds_for;
+use crate::time_zone::get_offset_for;
+use crate::time_zone::get_possible_epoch_ns_for;
+use crate::time_zone::get_start_of_day;
+use crate::time_zone::valid_at;
+use calendar::IsoDate;
+use clock::IsoTime;
+use clock::Timespec;
+use clock::utc_timespec;
+use offsets::Candidate;
+use offsets::Candidates;
+use provider::Provider;
+use rounding::I64Roundable;
+use rounding::IncrementRounder;
+use rounding::RoundingMode;
+
+// An offset rounded to whole minutes, a half away from zero; both in seconds.
+fn rounded_to_minutes(offset: i32) -> i64
+    ensures { λ r. ⌜ r ≡ roundedTo HalfExpand offset 60 ⌝ }
+{
+    IncrementRounder::from_signed_num(offset as i64, 60).round(RoundingMode::HalfExpand)
+}
+
+// Whether a candidate's offset is the given one, or rounds to it in whole minutes where minutes are matched.
+fn offset_matches(offset: i32, given: i32, match_minutes: bool) -> bool
+    ensures { λ r. ⌜ r ≡ offset-matches «match_minutes» given offset ⌝ }
+{
+    offset == given || (match_minutes && rounded_to_minutes(offset) == given as i64)
+}
+
+// The first possible instant whose offset matches; both tests are made of each before the next is tried.
+fn first_match(found: Candidates, given: i32, match_minutes: bool) -> Option<Candidate>
+    ensures { λ r. ⌜ r ≡ first-match «match_minutes» given found ⌝ }
+{
+    match found {
+        Candidates::Gap { .. } => None,
+        Candidates::One { only } => {
+            if offset_matches(only.offset, given, match_minutes) {
+                Some(only)
+            } else {
+                None
+            }
+        }
+        Candidates::Two { first, second } => {
+            if offset_matches(first.offset, given, match_minutes) {
+                Some(first)
+            } else if offset_matches(second.offset, given, match_minutes) {
+                Some(second)
+            } else {
+                None
+            }
+        }
+    }
+}
+
+// The local time less an offset, with the zone's own offset there.
+fn at_offset<P: Provider>(
+    provider: &P,
+    zone: TimeZone,
+    local: Timespec,
+    offset: i32,
+) -> Result<Candidate, ZonedFault>
+    requires { ⌜ natAbs (local .seconds) ≤ 8640000259200 ⌝ }
+    ensures { λ r. ⌜ r ≡ exactly (means (now (provider .entry))) zone (local .seconds) (local .nanos) offset ⌝ }
+{
+    let second = local.seconds - offset as i64;
+    if !valid_at(second, local.nanos) {
+        return Err(ZonedFault::Range);
+    }
+    let offset = get_offset_for(provider, zone, second)?;
+    Ok(Candidate { second, offset })
+}
+
+// The possible instant whose offset matches the given one.
+fn by_offset<P: Provider>(
+    provider: &P,
+    request: Request,
+    local: Timespec,
+    given: i32,
+) -> Result<Candidate, ZonedFault>
+    requires { ⌜ natAbs (local .seconds) ≤ 8640000259200 ⌝ }
+    ensures { λ r. ⌜ r ≡ matched (means (now (provider .entry))) request (local .seconds) (local .nanos) given ⌝ }
+{
+    if !day_within(100_000_000, local) {
+        return Err(ZonedFault::Range);
+    }
+    let possible = get_possible_epoch_ns_for(provider, request.zone, local)?;
+    if let Some(candidate) = first_match(possible, given, request.match_minutes) {
+        return Ok(candidate);
+    }
+    if let OffsetDisambiguation::Reject = request.policy {
+        return Err(ZonedFault::NoMatch);
+    }
+    let chosen = disambiguate_possible_epoch_nanos(
+        provider,
+        request.zone,
+        local,
+        request.disambiguation,
+        possible,
+    )?;
+    Ok(chosen)
+}
+
+// The midnight that begins a date, counted as if in UTC.
+fn midnight(date: IsoDate) -> i64
+    requires { ⌜ Real date ⌝ }
+    ensures { λ r. ⌜ r ≡ local-at date None .seconds ⌝ }
+{
+    utc_timespec(date, IsoTime::MIDNIGHT).seconds
+}
+
+fn with_nanos(chosen: Candidate, nanos: u32) -> EpochNanosecondsAndOffset
+    ensures { λ r. ⌜ Ok r ≡ with-nanos nanos (Ok chosen) ⌝ }
+{
+    EpochNanosecondsAndOffset {
+        ns: Timespec {
+            seconds: chosen.second,
+            nanos,
+        },
+        offset: chosen.offset,
+    }
+}
+
+// The instant that a request stands for: its arm is chosen by time, exact mark, offset and policy together.
+pub fn interpret_isodatetime_offset<P: Provider>(
+    provider: &P,
+    request: Request,
+) -> Result<EpochNanosecondsAndOffset, ZonedFault>
+    requires { ⌜ Sound request ⌝ }
+    ensures { λ r. ⌜ r ≡ interpreted (means (now (provider .entry))) request ⌝ }
+{
+    let Some(time) = request.time else {
+        let start = get_start_of_day(provider, request.zone, midnight(request.date))?;
+        return Ok(with_nanos(start, 0));
+    };
+    let local = utc_timespec(request.date, time);
+    let chosen = match (request.exact, request.offset, request.policy) {
+        (_, Some(given), OffsetDisambiguation::Prefer | OffsetDisambiguation::Reject) => {
+            by_offset(provider, request, local, given)?
+        }
+        (_, Some(given), OffsetDisambiguation::Use) => {
+            at_offset(provider, request.zone, local, given)?
+        }
+        (exact, None, _) if exact => at_offset(provider, request.zone, local, 0)?,
+        (_, None, _) | (_, Some(_), OffsetDisambiguation::Ignore) => {
+            get_epoch_nanoseconds_for(provider, request.zone, local, request.disambiguation)?
+        }
+    };
+    Ok(with_nanos(chosen, local.nanos))
+}
