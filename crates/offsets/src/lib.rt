@@ -12,10 +12,19 @@ pub struct Candidate {
 #[derive(Clone, Copy)]
 pub enum Candidates {
     // Nothing: the change that leaps over it, and the offsets just before and from the change on.
-    Gap { change: i64, before: i32, after: i32 },
-    One { only: Candidate },
+    Gap {
+        change: i64,
+        before: i32,
+        after: i32,
+    },
+    One {
+        only: Candidate,
+    },
     // The earlier instant stands first.
-    Two { first: Candidate, second: Candidate },
+    Two {
+        first: Candidate,
+        second: Candidate,
+    },
 }
 
 // What follows from the laws of offsets, each proved.

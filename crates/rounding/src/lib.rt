@@ -34,12 +34,16 @@ pub fn get_unsigned_rounding_mode(mode: RoundingMode, positive: bool) -> Unsigne
     ensures { λ r. ⌜ r ≡ unsignedOf mode positive ⌝ }
 {
     match (mode, positive) {
-        (RoundingMode::Ceil, true) | (RoundingMode::Floor, false) | (RoundingMode::Expand, _) => UnsignedRoundingMode::Infinity,
-        (RoundingMode::Floor, true) | (RoundingMode::Ceil, false) | (RoundingMode::Trunc, _) => UnsignedRoundingMode::Zero,
-        (RoundingMode::HalfCeil, true) | (RoundingMode::HalfFloor, false) | (RoundingMode::HalfExpand, _) =>
-            UnsignedRoundingMode::HalfInfinity,
-        (RoundingMode::HalfFloor, true) | (RoundingMode::HalfCeil, false) | (RoundingMode::HalfTrunc, _) =>
-            UnsignedRoundingMode::HalfZero,
+        (RoundingMode::Ceil, true) | (RoundingMode::Floor, false) | (RoundingMode::Expand, _) =>
+            UnsignedRoundingMode::Infinity,
+        (RoundingMode::Floor, true) | (RoundingMode::Ceil, false) | (RoundingMode::Trunc, _) =>
+            UnsignedRoundingMode::Zero,
+        (RoundingMode::HalfCeil, true)
+        | (RoundingMode::HalfFloor, false)
+        | (RoundingMode::HalfExpand, _) => UnsignedRoundingMode::HalfInfinity,
+        (RoundingMode::HalfFloor, true)
+        | (RoundingMode::HalfCeil, false)
+        | (RoundingMode::HalfTrunc, _) => UnsignedRoundingMode::HalfZero,
         (RoundingMode::HalfEven, _) => UnsignedRoundingMode::HalfToEven,
     }
 }

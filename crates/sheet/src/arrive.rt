@@ -1,12 +1,18 @@
 // From a request to an arrival: the entry checks in their order, then the instant.
 ghost use mathlib.Core.Path.{_≡_};
-ghost use mathlib.Core.Bool.{true};
+ghost use mathlib.Core.Bool.{true, cond};
+ghost use Rattle.std.specs.declared.result.Result.the-variants.{Err};
 ghost use Rattle.std.specs.Vec.{made};
 ghost use Rattle.clock.specs.Instants.{valid-epoch, within-limits, as-utc};
 ghost use Rattle.zoned.specs.Interpret.{local-at, time-shown, Sound};
 ghost use Rattle.calendar.specs.Gregorian.{Real};
-ghost use Rattle.sheet.specs.Calls.{zone-known, offset-small, values-checked, offset-timed, entry, made-at, arrived};
+ghost use Rattle.sheet.specs.Refusals.{lifted};
+ghost use Rattle.sheet.specs.declared.SheetFault.the-variants.{BerthNumber};
+ghost use Rattle.sheet.specs.Calls.{is-berth, zone-known, offset-small, values-checked, offset-timed, entry, made-at, arrived};
 use crate::Arrival;
+use crate::SheetFault;
+use crate::SheetFromZoned;
+use crate::berths::is_berth;
 use calendar::IsoDate;
 use calendar::is_valid_date;
 use clock::IsoTime;
@@ -36,7 +42,11 @@ fn check_zone<P: Provider>(provider: &P, zone: TimeZone) -> Result<(), ZonedFaul
         }
         return Ok(());
     }
-    get_offset_for(provider, zone, 0)?;
+    let epoch = Timespec {
+        seconds: 0,
+        nanos: 0,
+    };
+    get_offset_for(provider, zone, epoch)?;
     Ok(())
 }
 
@@ -64,9 +74,7 @@ fn are_values(request: Request) -> bool
     ensures date { λ r. ⌜ (r ≡ true → Real (request .date)) ⌝ }
     ensures time { λ r. ⌜ (r ≡ true → time-shown (request .time) ≡ true) ⌝ }
 {
-    is_valid_date(request.date)
-        && is_time_shown(request.time)
-        && is_offset_small(request.offset)
+    is_valid_date(request.date) && is_time_shown(request.time) && is_offset_small(request.offset)
 }
 
 fn is_offset_timed(request: Request) -> bool
@@ -130,4 +138,20 @@ pub fn arrive<P: Provider>(provider: &P, request: Request) -> Result<Arrival, Zo
     check_entry(provider, request)?;
     let found = interpret_isodatetime_offset(provider, request)?;
     try_new_with_cached_offset(request.zone, found)
+}
+
+// The same for a berth, whose number is tried first.
+pub(crate) fn arrive_at<P: Provider>(
+    provider: &P,
+    berth: u8,
+    request: Request,
+) -> Result<Arrival, SheetFault>
+    ensures answer { λ r. ⌜ r ≡ cond (is-berth berth) (lifted (arrived (means (now (provider .entry))) request)) (Err BerthNumber) ⌝ }
+    ensures ranged { λ r. ⌜ made r (λ a. (valid-epoch (a .instant) ≡ true) × (is-berth berth ≡ true)) ⌝ }
+{
+    if !is_berth(berth) {
+        return Err(SheetFault::BerthNumber);
+    }
+    let arrival = arrive(provider, request)?;
+    Ok(arrival)
 }

@@ -1,16 +1,17 @@
 // The sheet and its calls.
 ghost use mathlib.Core.Path.{_≡_};
 ghost use mathlib.Core.Bool.{true};
-ghost use Rattle.clock.specs.Instants.{valid-epoch, Reads-as};
+ghost use Prim.Native.Nat.{_≤_, _<_};
+ghost use lib.IntN.{natAbs};
+ghost use Rattle.clock.specs.Instants.{valid-epoch};
 ghost use Rattle.sheet.specs.Calls.{blank, set-answer, stored, clear-answer, cleared, Read-answer, all-in-range, local-of};
 use crate::Arrival;
 use crate::Reading;
 use crate::Refusal;
 use crate::SheetFault;
-use crate::arrive::arrive;
+use crate::arrive::arrive_at;
 use crate::berths::Berths;
 use crate::berths::is_berth;
-use clock::IsoDateTime;
 use clock::Timespec;
 use clock::iso_date_time;
 use provider::Provider;
@@ -22,15 +23,17 @@ pub struct Sheet<P> {
     ghost ranged: { all-in-range (berths .rows) ≡ true },
 }
 
-// The local date-time that an arrival's instant reads.
-fn local_of(arrival: Arrival) -> IsoDateTime
+// The local time that an arrival's instant reads, counted as if in UTC.
+fn local_of(arrival: Arrival) -> Timespec
     requires { ⌜ valid-epoch (arrival .instant) ≡ true ⌝ }
-    ensures { λ r. ⌜ Reads-as r (local-of arrival) ⌝ }
+    ensures value { λ r. ⌜ r ≡ local-of arrival ⌝ }
+    ensures bound { λ r. ⌜ natAbs (r .seconds) ≤ 8648640000000 ⌝ }
+    ensures nanos { λ r. ⌜ r .nanos < 1000000000 ⌝ }
 {
-    iso_date_time(Timespec {
+    Timespec {
         seconds: arrival.instant.seconds + arrival.offset as i64,
         nanos: arrival.instant.nanos,
-    })
+    }
 }
 
 impl<P: Provider> Sheet<P> {
@@ -49,7 +52,10 @@ impl<P: Provider> Sheet<P> {
     pub fn close(self) -> P
         ensures { λ r. ⌜ r ≡ self .provider ⌝ }
     {
-        let Sheet { provider, .. } = self;
+        let Sheet {
+            provider,
+            berths: _,
+        } = self;
         provider
     }
 
@@ -59,21 +65,12 @@ impl<P: Provider> Sheet<P> {
         ensures after { λ r. ⌜ now (self .exit) .berths .rows ≡ stored (now (self .entry) .berths .rows) berth r ⌝ }
         ensures keeps { λ _. ⌜ now (self .exit) .provider ≡ now (self .entry) .provider ⌝ }
     {
-        if !is_berth(berth) {
-            return Err(Refusal {
-                berth,
-                fault: SheetFault::BerthNumber,
-            });
-        }
-        match arrive(&self.provider, request) {
+        match arrive_at(&self.provider, berth, request) {
             Ok(arrival) => {
                 self.berths.put(berth, Some(arrival));
                 Ok(arrival)
             }
-            Err(fault) => Err(Refusal {
-                berth,
-                fault: SheetFault::Zoned(fault),
-            }),
+            Err(fault) => Err(Refusal { berth, fault }),
         }
     }
 
@@ -112,7 +109,7 @@ impl<P: Provider> Sheet<P> {
         };
         Ok(Reading {
             arrival,
-            local: local_of(arrival),
+            local: iso_date_time(local_of(arrival)),
         })
     }
 }

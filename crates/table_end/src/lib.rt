@@ -12,11 +12,6 @@ ghost use Rattle.zone_rows.specs.Rows.{held, Kept};
 ghost use Rattle.zone_table.specs.Layout.{zones as zone-count, rows as row-count, start as start-of, seconds, offsets, check-answer, Sound, Weighed};
 ghost use Rattle.table_end.specs.Table.{told};
 ghost use Rattle.table_end.specs.Lawful.{told-bounded, told-spaced};
-use zone_table::TableFault;
-use zone_table::check;
-use zone_table::count;
-use zone_table::row;
-use zone_table::zones;
 use offsets::Candidate;
 use offsets::Candidates;
 use provider::End;
@@ -25,6 +20,11 @@ use provider::ProviderFault;
 use provider::SPAN;
 use provider::Source;
 use zone_rows::Row;
+use zone_table::TableFault;
+use zone_table::check;
+use zone_table::count;
+use zone_table::row;
+use zone_table::zones;
 
 pub struct RawTable<'a> {
     bytes: &'a [u8],

@@ -52,9 +52,13 @@ abbrev pub at-offset : ℤ → Result ℤ ZoneFault → Result Candidate ZonedFa
 at-offset s (Ok o) = Ok (record { second = s; offset = o })
 at-offset s (Err e) = raised (Err e)
 
--- The local time less a given offset, with the zone's own offset there.
+-- An instant in range, with the zone's own offset there.
+abbrev pub at-instant : Meaning → TimeZone → ℕ → ℤ → Result Candidate ZonedFault
+at-instant m z n s = cond (valid-at n s) (at-offset s (offset-in m z s)) (Err Range)
+
+-- The local time less a given offset.
 abbrev pub exactly : Meaning → TimeZone → ℤ → ℕ → ℤ → Result Candidate ZonedFault
-exactly m z L n o = cond (valid-at n (L -ℤ o)) (at-offset (L -ℤ o) (offset-in m z (L -ℤ o))) (Err Range)
+exactly m z L n o = at-instant m z n (L -ℤ o)
 
 -- Where no offset matches: Reject refuses, and Prefer resolves.
 abbrev pub unmatched : OffsetDisambiguation → Result Candidate ZonedFault → Result Candidate ZonedFault

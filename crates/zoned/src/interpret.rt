@@ -8,7 +8,9 @@ ghost use Rattle.std.specs.declared.result.Result.the-variants.{Ok};
 ghost use Rattle.calendar.specs.Gregorian.{Real};
 ghost use Rattle.rounding.specs.Rounding.{roundedTo};
 ghost use Rattle.rounding.specs.declared.RoundingMode.the-variants.{HalfExpand};
-ghost use Rattle.zoned.specs.Interpret.{offset-matches, first-match, exactly, matched, local-at, interpreted, Sound, with-nanos};
+ghost use Rattle.zoned.specs.Interpret.{offset-matches, first-match, at-instant, exactly, unmatched as unmatched-of, matched, by-offset, local-at, interpreted, Sound, with-nanos};
+ghost use Rattle.zoned.specs.Faults.{raised};
+ghost use Rattle.zoned.specs.Instants.{disambiguated, resolved};
 use crate::EpochNanosecondsAndOffset;
 use crate::OffsetDisambiguation;
 use crate::Request;
@@ -21,10 +23,10 @@ use crate::time_zone::get_epoch_nanoseconds_for;
 use crate::time_zone::get_offset_for;
 use crate::time_zone::get_possible_epoch_ns_for;
 use crate::time_zone::get_start_of_day;
-use crate::time_zone::valid_at;
 use calendar::IsoDate;
 use clock::IsoTime;
 use clock::Timespec;
+use clock::is_valid_epoch;
 use clock::utc_timespec;
 use offsets::Candidate;
 use offsets::Candidates;
@@ -72,6 +74,35 @@ fn first_match(found: Candidates, given: i32, match_minutes: bool) -> Option<Can
     }
 }
 
+// The local time less an offset.
+fn less_offset(local: Timespec, offset: i32) -> Timespec
+    requires { ⌜ natAbs (local .seconds) ≤ 8640000259200 ⌝ }
+    ensures { λ r. ⌜ r ≡ record { seconds = local .seconds -ℤ offset; nanos = local .nanos } ⌝ }
+{
+    Timespec {
+        seconds: local.seconds - offset as i64,
+        nanos: local.nanos,
+    }
+}
+
+// An instant in range, with the zone's own offset there.
+fn at_instant<P: Provider>(
+    provider: &P,
+    zone: TimeZone,
+    instant: Timespec,
+) -> Result<Candidate, ZonedFault>
+    ensures { λ r. ⌜ r ≡ at-instant (means (now (provider .entry))) zone (instant .nanos) (instant .seconds) ⌝ }
+{
+    if !is_valid_epoch(instant) {
+        return Err(ZonedFault::Range);
+    }
+    let offset = get_offset_for(provider, zone, instant)?;
+    Ok(Candidate {
+        second: instant.seconds,
+        offset,
+    })
+}
+
 // The local time less an offset, with the zone's own offset there.
 fn at_offset<P: Provider>(
     provider: &P,
@@ -82,12 +113,43 @@ fn at_offset<P: Provider>(
     requires { ⌜ natAbs (local .seconds) ≤ 8640000259200 ⌝ }
     ensures { λ r. ⌜ r ≡ exactly (means (now (provider .entry))) zone (local .seconds) (local .nanos) offset ⌝ }
 {
-    let second = local.seconds - offset as i64;
-    if !valid_at(second, local.nanos) {
-        return Err(ZonedFault::Range);
+    at_instant(provider, zone, less_offset(local, offset))
+}
+
+// The local time resolved.
+fn by_wall_clock<P: Provider>(
+    provider: &P,
+    request: Request,
+    local: Timespec,
+) -> Result<Candidate, ZonedFault>
+    requires { ⌜ natAbs (local .seconds) ≤ 8640000259200 ⌝ }
+    ensures { λ r. ⌜ r ≡ raised (resolved (means (now (provider .entry))) (request .zone) (local .seconds) (local .nanos) (request .disambiguation)) ⌝ }
+{
+    let chosen = get_epoch_nanoseconds_for(provider, request.zone, local, request.disambiguation)?;
+    Ok(chosen)
+}
+
+// Where no offset matches: Reject refuses, and Prefer resolves.
+fn unmatched<P: Provider>(
+    provider: &P,
+    request: Request,
+    local: Timespec,
+    possible: Candidates,
+) -> Result<Candidate, ZonedFault>
+    requires { ⌜ natAbs (local .seconds) ≤ 8640000259200 ⌝ }
+    ensures { λ r. ⌜ r ≡ unmatched-of (request .policy) (raised (disambiguated (means (now (provider .entry))) (request .zone) (local .seconds) (local .nanos) (request .disambiguation) possible)) ⌝ }
+{
+    if let OffsetDisambiguation::Reject = request.policy {
+        return Err(ZonedFault::NoMatch);
     }
-    let offset = get_offset_for(provider, zone, second)?;
-    Ok(Candidate { second, offset })
+    let chosen = disambiguate_possible_epoch_nanos(
+        provider,
+        request.zone,
+        local,
+        request.disambiguation,
+        possible,
+    )?;
+    Ok(chosen)
 }
 
 // The possible instant whose offset matches the given one.
@@ -107,17 +169,7 @@ fn by_offset<P: Provider>(
     if let Some(candidate) = first_match(possible, given, request.match_minutes) {
         return Ok(candidate);
     }
-    if let OffsetDisambiguation::Reject = request.policy {
-        return Err(ZonedFault::NoMatch);
-    }
-    let chosen = disambiguate_possible_epoch_nanos(
-        provider,
-        request.zone,
-        local,
-        request.disambiguation,
-        possible,
-    )?;
-    Ok(chosen)
+    unmatched(provider, request, local, possible)
 }
 
 // The midnight that begins a date, counted as if in UTC.
@@ -140,7 +192,30 @@ fn with_nanos(chosen: Candidate, nanos: u32) -> EpochNanosecondsAndOffset
     }
 }
 
-// The instant that a request stands for: its arm is chosen by time, exact mark, offset and policy together.
+// The instant of a request with a time: the arm is chosen by exact mark, offset and policy together.
+fn timed<P: Provider>(
+    provider: &P,
+    request: Request,
+    local: Timespec,
+) -> Result<Candidate, ZonedFault>
+    requires { ⌜ natAbs (local .seconds) ≤ 8640000259200 ⌝ }
+    ensures { λ r. ⌜ r ≡ by-offset (request .exact) (request .offset) (means (now (provider .entry))) request (local .seconds) (local .nanos) ⌝ }
+{
+    match (request.exact, request.offset, request.policy) {
+        (_, Some(given), OffsetDisambiguation::Prefer | OffsetDisambiguation::Reject) => {
+            by_offset(provider, request, local, given)
+        }
+        (_, Some(given), OffsetDisambiguation::Use) => {
+            at_offset(provider, request.zone, local, given)
+        }
+        (exact, None, _) if exact => at_offset(provider, request.zone, local, 0),
+        (_, None, _) | (_, Some(_), OffsetDisambiguation::Ignore) => {
+            by_wall_clock(provider, request, local)
+        }
+    }
+}
+
+// The instant that a request stands for.
 pub fn interpret_isodatetime_offset<P: Provider>(
     provider: &P,
     request: Request,
@@ -153,17 +228,6 @@ pub fn interpret_isodatetime_offset<P: Provider>(
         return Ok(with_nanos(start, 0));
     };
     let local = utc_timespec(request.date, time);
-    let chosen = match (request.exact, request.offset, request.policy) {
-        (_, Some(given), OffsetDisambiguation::Prefer | OffsetDisambiguation::Reject) => {
-            by_offset(provider, request, local, given)?
-        }
-        (_, Some(given), OffsetDisambiguation::Use) => {
-            at_offset(provider, request.zone, local, given)?
-        }
-        (exact, None, _) if exact => at_offset(provider, request.zone, local, 0)?,
-        (_, None, _) | (_, Some(_), OffsetDisambiguation::Ignore) => {
-            get_epoch_nanoseconds_for(provider, request.zone, local, request.disambiguation)?
-        }
-    };
+    let chosen = timed(provider, request, local)?;
     Ok(with_nanos(chosen, local.nanos))
 }

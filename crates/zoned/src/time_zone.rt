@@ -19,14 +19,18 @@ use provider::Provider;
 
 const SECONDS_PER_DAY: i64 = 86_400;
 
-// The zone's offset at a second, in seconds.
-pub fn get_offset_for<P: Provider>(provider: &P, zone: TimeZone, second: i64) -> Result<i32, ZoneFault>
-    ensures { λ r. ⌜ r ≡ offset-in (means (now (provider .entry))) zone second ⌝ }
+// The zone's offset at an instant, in seconds.
+pub fn get_offset_for<P: Provider>(
+    provider: &P,
+    zone: TimeZone,
+    instant: Timespec,
+) -> Result<i32, ZoneFault>
+    ensures { λ r. ⌜ r ≡ offset-in (means (now (provider .entry))) zone (instant .seconds) ⌝ }
 {
     match zone {
         TimeZone::Fixed(minutes) => Ok(minutes as i32 * 60),
         TimeZone::Named(number) => {
-            let offset = provider.offset(number, second)?;
+            let offset = provider.offset(number, instant.seconds)?;
             Ok(offset)
         }
     }
@@ -54,7 +58,11 @@ fn reading(local: Timespec, minutes: i16) -> Candidate
 }
 
 // What the provider tells of a named zone.
-fn named_candidates<P: Provider>(provider: &P, number: u16, local: Timespec) -> Result<Candidates, ZoneFault>
+fn named_candidates<P: Provider>(
+    provider: &P,
+    number: u16,
+    local: Timespec,
+) -> Result<Candidates, ZoneFault>
     ensures { λ r. ⌜ r ≡ carried (candidates-answer (means (now (provider .entry)) number) (local .seconds)) ⌝ }
 {
     let found = provider.candidates(number, local.seconds)?;
@@ -62,7 +70,11 @@ fn named_candidates<P: Provider>(provider: &P, number: u16, local: Timespec) -> 
 }
 
 // What reads the local time.
-fn candidates_for<P: Provider>(provider: &P, zone: TimeZone, local: Timespec) -> Result<Candidates, ZoneFault>
+fn candidates_for<P: Provider>(
+    provider: &P,
+    zone: TimeZone,
+    local: Timespec,
+) -> Result<Candidates, ZoneFault>
     requires { ⌜ natAbs (local .seconds) ≤ 8640000259200 ⌝ }
     ensures { λ r. ⌜ r ≡ candidates-in (means (now (provider .entry))) zone (local .seconds) ⌝ }
 {
@@ -79,12 +91,12 @@ fn candidates_for<P: Provider>(provider: &P, zone: TimeZone, local: Timespec) ->
     }
 }
 
-// Whether an instant with these nanoseconds is in range.
-pub(crate) fn valid_at(second: i64, nanos: u32) -> bool
-    ensures { λ r. ⌜ r ≡ valid-at nanos second ⌝ }
+// Whether the instant with these nanoseconds is in range.
+fn valid_at(candidate: Candidate, nanos: u32) -> bool
+    ensures { λ r. ⌜ r ≡ valid-at nanos (candidate .second) ⌝ }
 {
     is_valid_epoch(Timespec {
-        seconds: second,
+        seconds: candidate.second,
         nanos,
     })
 }
@@ -94,10 +106,8 @@ fn all_valid(found: Candidates, nanos: u32) -> bool
 {
     match found {
         Candidates::Gap { .. } => true,
-        Candidates::One { only } => valid_at(only.second, nanos),
-        Candidates::Two { first, second } => {
-            valid_at(first.second, nanos) && valid_at(second.second, nanos)
-        }
+        Candidates::One { only } => valid_at(only, nanos),
+        Candidates::Two { first, second } => { valid_at(first, nanos) && valid_at(second, nanos) }
     }
 }
 
@@ -117,27 +127,6 @@ pub fn get_possible_epoch_ns_for<P: Provider>(
     Ok(found)
 }
 
-// The first of the possible instants; a local time that was moved out of a gap has one.
-fn first_possible(found: Candidates) -> Result<Candidate, ZoneFault>
-    ensures { λ r. ⌜ r ≡ first-possible (Ok found) ⌝ }
-{
-    match found {
-        Candidates::Gap { .. } => Err(ZoneFault::Range),
-        Candidates::One { only } => Ok(only),
-        Candidates::Two { first, .. } => Ok(first),
-    }
-}
-
-fn last_possible(found: Candidates) -> Result<Candidate, ZoneFault>
-    ensures { λ r. ⌜ r ≡ last-possible (Ok found) ⌝ }
-{
-    match found {
-        Candidates::Gap { .. } => Err(ZoneFault::Range),
-        Candidates::One { only } => Ok(only),
-        Candidates::Two { second, .. } => Ok(second),
-    }
-}
-
 // The possible instants of a local time that was moved out of a gap.
 fn moved_possible<P: Provider>(
     provider: &P,
@@ -152,13 +141,61 @@ fn moved_possible<P: Provider>(
     get_possible_epoch_ns_for(provider, zone, local)
 }
 
-// The local time moved by so many seconds.
-fn moved_by(local: Timespec, seconds: i64) -> Timespec
-    requires { ⌜ natAbs (local .seconds) ≤ 8640000259200 ⌝ ∗ ⌜ natAbs seconds ≤ 8589934592 ⌝ }
-    ensures { λ r. ⌜ (r .seconds ≡ local .seconds +ℤ seconds) × (r .nanos ≡ local .nanos) ⌝ }
+// The first of them; a local time that was moved out of a gap has one.
+fn first_moved<P: Provider>(
+    provider: &P,
+    zone: TimeZone,
+    local: Timespec,
+) -> Result<Candidate, ZoneFault>
+    ensures { λ r. ⌜ r ≡ first-possible (moved-possible (means (now (provider .entry))) zone (local .seconds) (local .nanos)) ⌝ }
+{
+    match moved_possible(provider, zone, local)? {
+        Candidates::Gap { .. } => Err(ZoneFault::Range),
+        Candidates::One { only } => Ok(only),
+        Candidates::Two { first, .. } => Ok(first),
+    }
+}
+
+fn last_moved<P: Provider>(
+    provider: &P,
+    zone: TimeZone,
+    local: Timespec,
+) -> Result<Candidate, ZoneFault>
+    ensures { λ r. ⌜ r ≡ last-possible (moved-possible (means (now (provider .entry))) zone (local .seconds) (local .nanos)) ⌝ }
+{
+    match moved_possible(provider, zone, local)? {
+        Candidates::Gap { .. } => Err(ZoneFault::Range),
+        Candidates::One { only } => Ok(only),
+        Candidates::Two { second, .. } => Ok(second),
+    }
+}
+
+// The jump of a gap.
+fn jump(before: i32, after: i32) -> i64
+    ensures value { λ r. ⌜ r ≡ after -ℤ before ⌝ }
+    ensures bound { λ r. ⌜ natAbs r ≤ 4294967295 ⌝ }
+{
+    after as i64 - before as i64
+}
+
+// The local time moved back by the jump of a gap.
+fn moved_back(local: Timespec, before: i32, after: i32) -> Timespec
+    requires { ⌜ natAbs (local .seconds) ≤ 8640000259200 ⌝ }
+    ensures { λ r. ⌜ r ≡ record { seconds = local .seconds -ℤ (after -ℤ before); nanos = local .nanos } ⌝ }
 {
     Timespec {
-        seconds: local.seconds + seconds,
+        seconds: local.seconds - jump(before, after),
+        nanos: local.nanos,
+    }
+}
+
+// The local time moved on by the jump of a gap.
+fn moved_on(local: Timespec, before: i32, after: i32) -> Timespec
+    requires { ⌜ natAbs (local .seconds) ≤ 8640000259200 ⌝ }
+    ensures { λ r. ⌜ r ≡ record { seconds = local .seconds +ℤ (after -ℤ before); nanos = local .nanos } ⌝ }
+{
+    Timespec {
+        seconds: local.seconds + jump(before, after),
         nanos: local.nanos,
     }
 }
@@ -177,16 +214,9 @@ fn resolve_gap<P: Provider>(
 {
     match disambiguation {
         Disambiguation::Reject => Err(ZoneFault::Ambiguous),
-        Disambiguation::Earlier => {
-            let earlier = moved_by(local, before as i64 - after as i64);
-            let possible = moved_possible(provider, zone, earlier)?;
-            first_possible(possible)
-        }
-        Disambiguation::Compatible | Disambiguation::Later => {
-            let later = moved_by(local, after as i64 - before as i64);
-            let possible = moved_possible(provider, zone, later)?;
-            last_possible(possible)
-        }
+        Disambiguation::Earlier => first_moved(provider, zone, moved_back(local, before, after)),
+        Disambiguation::Compatible => last_moved(provider, zone, moved_on(local, before, after)),
+        Disambiguation::Later => last_moved(provider, zone, moved_on(local, before, after)),
     }
 }
 

@@ -17,5 +17,5 @@ returns c =
     record {
       date = c .civil .ensures .0;
       time = c .time-of-day .ensures .shows;
-      counted = same-pair _ (c .args .local) (omega (arith, floors, c .civil .ensures .1, c .time-of-day .ensures .second)) (c .time-of-day .ensures .nanosecond)
+      counted = same-pair _ (c .args .local) (omega (arith, floors, c .civil .ensures .1, c .time-of-day .ensures .second)) (c .time-of-day .ensures .nanosecond);
     }

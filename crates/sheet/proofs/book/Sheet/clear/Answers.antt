@@ -1,0 +1,10 @@
+use mathlib.Core.Path.{refl}
+use Prim.Native.Nat.{_-_}
+use Rattle.std.specs.declared.option.Option.the-variants.{None}
+use Rattle.sheet.proofs.Ranges.{put-ranged}
+use Rattle.sheet.proofs.book.Sheet.clear.Needs as need
+
+pub ghost-self : need.ghost-self
+ghost-self g c =
+    let s = c .args .self .now in
+    (rw (c .put .ensures) (put-ranged (s .berths .rows) (c .args .berth - 1) None refl (s .ranged)), tt)
