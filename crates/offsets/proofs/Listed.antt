@@ -11,6 +11,7 @@ use Rattle.std.proofs.shelf.Elements.{all-kept-by, kept-by-passes}
 use Rattle.std.proofs.shelf.Signed.{ints, by-ltZ}
 use Rattle.std.specs.shelf.Lists.{All, kept-by}
 use Rattle.offsets.proofs.Sides.{only-gap}
+use Rattle.offsets.proofs.Neighbours.{spaced-apart}
 use Rattle.offsets.specs.Offsets.{Bounded, Spaced}
 use Rattle.offsets.specs.Readers.{Reads, Reading, Found}
 use Rattle.offsets.specs.Possible.{eqZ, seconds, around, reads, possible, at, instants, listed, gapped, first-or, change-over, answer-of, candidates-at}
@@ -147,7 +148,7 @@ gap-change f bound spaced L c before after (none, b, a, low, high) =
     other d e =
         let x : (d +ℤ f (d -ℤ pos 1)) ≤ℤ L = grind (arith, ints) in
         let y : L <ℤ (d +ℤ f d) = grind (arith, ints) in
-        only-gap f spaced L c (omega (arith, ints)) (omega (arith, ints)) d x y
+        only-gap f (spaced-apart f spaced) L c (omega (arith, ints)) (omega (arith, ints)) d x y
 
 -- ---- so there is one answer
 

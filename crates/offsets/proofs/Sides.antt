@@ -6,16 +6,16 @@ use native.Mathlib.Omega.{arith}
 use lib.IntN.{ℤ, pos, negsuc, _+ℤ_, _-ℤ_, natAbs}
 use lib.Signed.{_<ℤ_, _≤ℤ_}
 use Rattle.std.proofs.shelf.Signed.{ints, by-ltZ}
-use Rattle.offsets.specs.Offsets.{Changes, jump, Spaced}
+use Rattle.offsets.specs.Offsets.{Changes, jump, Apart}
 
 size : (z : ℤ) → (z ≤ℤ pos (natAbs z)) × ((pos 0 -ℤ z) ≤ℤ pos (natAbs z))
 size (pos n) = (omega (arith, ints), omega (arith, ints))
 size (negsuc n) = (omega (arith, ints), omega (arith, ints))
 
-same-or : (a b : ℤ) → (a ≡ b) ⊎ (a ≡ b → ⊥)
+pub same-or : (a b : ℤ) → (a ≡ b) ⊎ (a ≡ b → ⊥)
 same-or a b = by-ltZ a b (λ h. inr (λ e. omega (arith, ints))) (λ h. by-ltZ b a (λ k. inr (λ e. omega (arith, ints))) (λ k. inl (omega (arith, ints))))
 
-module _ (f : ℤ → ℤ) (spaced : Spaced f) (L : ℤ) where
+module _ (f : ℤ → ℤ) (apart : Apart f) (L : ℤ) where
   -- the last change up to t, from which on instants read later than L
   record Above (t : ℤ) : Type 0 where
     last : ℤ
@@ -38,7 +38,7 @@ module _ (f : ℤ → ℤ) (spaced : Spaced f) (L : ℤ) where
           let u = a .until in
           let l = a .later in
           let s = a .same in
-          let p = spaced (a .last) (t +ℤ pos 1) (a .changes) n (omega (arith, ints)) in
+          let p = apart (a .last) (t +ℤ pos 1) (a .changes) n (omega (arith, ints)) in
           let b = ap f back in
           let j = size (f (t +ℤ pos 1) -ℤ f ((t +ℤ pos 1) -ℤ pos 1)) in
           record { last = t +ℤ pos 1; changes = n; until = omega (arith, ints); same = refl; later = omega (arith, ints) }
@@ -62,7 +62,7 @@ module _ (f : ℤ → ℤ) (spaced : Spaced f) (L : ℤ) where
           let u = a .past in
           let l = a .earlier in
           let s = a .same in
-          let p = spaced t (a .first) n (a .changes) u in
+          let p = apart t (a .first) n (a .changes) u in
           let j = size (f t -ℤ f (t -ℤ pos 1)) in
           record { first = t; changes = n; past = omega (arith, ints); same = refl; earlier = omega (arith, ints) }
 

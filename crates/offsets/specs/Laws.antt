@@ -1,10 +1,14 @@
 -- What the two laws of offsets bring about, whatever the offsets.
 use mathlib.Core.Path.{_≡_}
 use lib.IntN.{ℤ}
-use Rattle.offsets.specs.Offsets.{Bounded, Spaced}
+use Rattle.offsets.specs.Offsets.{Bounded, Spaced, Apart}
 use Rattle.offsets.specs.Readers.{Leaps, Found}
 use Rattle.offsets.specs.Possible.{candidates-at}
 use Rattle.offsets.specs.declared.Candidates.{Candidates}
+
+-- What neighbouring changes keep, any two changes keep.
+abbrev pub All-apart : Type 0
+All-apart = (f : ℤ → ℤ) → Spaced f → Apart f
 
 -- A local time is leapt over by one change at most.
 abbrev pub One-gap : Type 0

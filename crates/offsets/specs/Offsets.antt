@@ -16,6 +16,17 @@ Changes f c = f (c -ℤ pos 1) ≡ f c → ⊥
 abbrev pub jump : (ℤ → ℤ) → ℤ → ℕ
 jump f c = natAbs (f c -ℤ f (c -ℤ pos 1))
 
--- Two changes lie farther apart than the sum of the sizes of their jumps.
+-- Two changes with none between them.
+pub record Neighbours (f : ℤ → ℤ) (c d : ℤ) : Type 0 where
+  pub first : Changes f c
+  pub second : Changes f d
+  pub order : c <ℤ d
+  pub none : (e : ℤ) → c <ℤ e → e <ℤ d → Changes f e → ⊥
+
+-- Neighbouring changes lie farther apart than the sum of the sizes of their jumps.
 abbrev pub Spaced : (ℤ → ℤ) → Type 0
-Spaced f = (c d : ℤ) → Changes f c → Changes f d → c <ℤ d → (c +ℤ pos (jump f c + jump f d)) <ℤ d
+Spaced f = (c d : ℤ) → Neighbours f c d → (c +ℤ pos (jump f c + jump f d)) <ℤ d
+
+-- Any two changes do.
+abbrev pub Apart : (ℤ → ℤ) → Type 0
+Apart f = (c d : ℤ) → Changes f c → Changes f d → c <ℤ d → (c +ℤ pos (jump f c + jump f d)) <ℤ d

@@ -1,5 +1,5 @@
 // A zone's offset as a function of whole seconds: what reads a local time, and what the laws of offsets bring about.
-ghost use Rattle.offsets.specs.Laws.{One-gap, One-answer};
+ghost use Rattle.offsets.specs.Laws.{All-apart, One-gap, One-answer};
 
 // An instant, in whole seconds, and the offset there.
 #[derive(Clone, Copy)]
@@ -29,5 +29,5 @@ pub enum Candidates {
 
 // What follows from the laws of offsets, each proved.
 pub fn laws_hold()
-    ensures { λ _. ⌜ One-gap ⌝ ∗ ⌜ One-answer ⌝ }
+    ensures { λ _. ⌜ All-apart ⌝ ∗ ⌜ One-gap ⌝ ∗ ⌜ One-answer ⌝ }
 {}

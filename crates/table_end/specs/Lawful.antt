@@ -41,6 +41,13 @@ told-bounded bs s n = each-of Bounded _ (zone-offset bs n) (ltb n (zones bs)) (�
 pub told-spaced : (bs : List ℕ) → Sound bs → (n : ℕ) → Each (told bs n) Spaced
 told-spaced bs s n = each-of Spaced _ (zone-offset bs n) (ltb n (zones bs)) (λ h. lawful bs s n (below n (zones bs) h) .1)
 
+-- Every zone of the table keeps both laws.
+abbrev pub Lawful : List ℕ → Type 0
+Lawful bs = (n : ℕ) → Each (told bs n) Bounded × Each (told bs n) Spaced
+
+pub told-lawful : (bs : List ℕ) → Sound bs → Lawful bs
+told-lawful bs s n = (told-bounded bs s n, told-spaced bs s n)
+
 -- the rows that the code walks
 pub kept-at : (bs : List ℕ) → Sound bs → (z b n : ℕ) → z < zones bs → b ≡ start bs z → n ≡ count bs z → Kept (seconds bs b) (offsets bs b) ((n - 1) + 1)
 kept-at bs s z b n l e f i h =

@@ -11,7 +11,8 @@ ghost use Rattle.offsets.specs.Readers.{Found};
 ghost use Rattle.zone_rows.specs.Rows.{held, Kept};
 ghost use Rattle.zone_table.specs.Layout.{zones as zone-count, rows as row-count, start as start-of, seconds, offsets, check-answer, Sound, Weighed};
 ghost use Rattle.table_end.specs.Table.{told};
-ghost use Rattle.table_end.specs.Lawful.{told-bounded, told-spaced};
+ghost use Rattle.table_end.specs.Counts.{weigh-answer};
+ghost use Rattle.table_end.specs.Lawful.{Lawful, told-bounded, told-spaced};
 use offsets::Candidate;
 use offsets::Candidates;
 use provider::End;
@@ -24,6 +25,7 @@ use zone_table::TableFault;
 use zone_table::check;
 use zone_table::count;
 use zone_table::row;
+use zone_table::rows;
 use zone_table::zones;
 
 pub struct RawTable<'a> {
@@ -42,6 +44,7 @@ impl<'a> RawTable<'a> {
         RawTable { bytes }
     }
 
+    // Refuses a table whose sizes break the layout, or with a row that breaks a rule, and leaves it raw either way.
     pub fn check(&self) -> Result<(), TableFault>
         ensures answer { λ r. ⌜ r ≡ check-answer (now (now (self .entry) .bytes)) ⌝ }
         ensures weighed { λ r. ⌜ Weighed (now (now (self .entry) .bytes)) r ⌝ }
@@ -49,9 +52,11 @@ impl<'a> RawTable<'a> {
         check(self.bytes)
     }
 
+    // Moves a table that the check takes on; it cannot refuse.
     pub fn proof(self) -> ProofedTable<'a>
         requires { ⌜ Sound (now (self .bytes)) ⌝ }
-        ensures { λ r. ⌜ r .bytes ≡ self .entry .bytes ⌝ }
+        ensures bytes { λ r. ⌜ r .bytes ≡ self .entry .bytes ⌝ }
+        ensures lawful { λ _. ⌜ Lawful (now (self .entry .bytes)) ⌝ }
     {
         let RawTable { bytes } = self;
         ProofedTable { bytes }
@@ -66,12 +71,49 @@ impl<'a> RawTable<'a> {
 }
 
 impl<'a> ProofedTable<'a> {
+    pub fn zones(&self) -> usize
+        ensures { λ r. ⌜ r ≡ zone-count (now (now (self .entry) .bytes)) ⌝ }
+    {
+        zones(self.bytes)
+    }
+
+    pub fn rows(&self) -> usize
+        ensures { λ r. ⌜ r ≡ row-count (now (now (self .entry) .bytes)) ⌝ }
+    {
+        rows(self.bytes)
+    }
+
     pub fn take_back(self) -> &'a [u8]
         ensures { λ r. ⌜ r ≡ self .entry .bytes ⌝ }
     {
         let ProofedTable { bytes } = self;
         bytes
     }
+}
+
+// How much a table holds.
+#[derive(Clone, Copy)]
+pub struct Counts {
+    pub zones: usize,
+    pub rows: usize,
+}
+
+// What a table holds, once the check takes it.
+pub fn weigh(bytes: &[u8]) -> Result<Counts, TableFault>
+    ensures { λ r. ⌜ r ≡ weigh-answer (now (bytes .entry)) ⌝ }
+{
+    let raw = RawTable::load(bytes);
+    if let Err(fault) = raw.check() {
+        let _bytes = raw.take_back();
+        return Err(fault);
+    }
+    let table = raw.proof();
+    let counts = Counts {
+        zones: table.zones(),
+        rows: table.rows(),
+    };
+    let _bytes = table.take_back();
+    Ok(counts)
 }
 
 // How many rows stand before those of the zone.

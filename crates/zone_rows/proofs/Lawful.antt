@@ -7,7 +7,8 @@ use native.Mathlib.Omega.{arith}
 use lib.IntN.{ℤ, pos, negsuc, _+ℤ_, _-ℤ_, natAbs}
 use lib.Signed.{leZ, ltZ, _<ℤ_, _≤ℤ_}
 use Rattle.std.proofs.shelf.Signed.{ints, by-ltZ}
-use Rattle.offsets.specs.Offsets.{Changes, jump, Bounded, Spaced}
+use Rattle.offsets.specs.Offsets.{Changes, jump, Bounded, Spaced, Apart}
+use Rattle.offsets.proofs.Neighbours.{apart-spaced}
 use Rattle.zone_rows.specs.Rows.{held, keeps, Kept, first-row, later-row, apart, in-day}
 
 -- what the rules say of the rows 0 to k
@@ -125,9 +126,9 @@ module _ (sec off : ℕ → ℤ) where
       (λ o. let z = o .size in let e = o .at in omega (arith, ints))
       (which k (fewer (suc k) r) c n)
 
-  pub held-spaced : (k : ℕ) → Ruled sec off k → Spaced (held sec off k)
-  held-spaced zero r c d m n h = let z : ⊥ = no-change c m in elim z [ ]
-  held-spaced (suc k) r c d m n h = ⊎-elim (λ a. ⊎-elim (λ b. both (λ x y. held-spaced k (fewer k r) c d x y h) a b) (λ b. old-new a b) (which k r d n)) (λ a. ⊎-elim (λ b. let p = a .at in let q = b .before in omega (arith, ints)) (λ b. let p = a .at in let q = b .at in omega (arith, ints)) (which k r d n)) (which k r c m)
+  pub held-apart : (k : ℕ) → Ruled sec off k → Apart (held sec off k)
+  held-apart zero r c d m n h = let z : ⊥ = no-change c m in elim z [ ]
+  held-apart (suc k) r c d m n h = ⊎-elim (λ a. ⊎-elim (λ b. both (λ x y. held-apart k (fewer k r) c d x y h) a b) (λ b. old-new a b) (which k r d n)) (λ a. ⊎-elim (λ b. let p = a .at in let q = b .before in omega (arith, ints)) (λ b. let p = a .at in let q = b .at in omega (arith, ints)) (which k r d n)) (which k r c m)
     where
       both : (Changes (held sec off k) c → Changes (held sec off k) d → (c +ℤ pos (jump (held sec off k) c + jump (held sec off k) d)) <ℤ d) → Older k c → Older k d → (c +ℤ pos (jump (held sec off (suc k)) c + jump (held sec off (suc k)) d)) <ℤ d
       both older a b = let p = a .size in let q = b .size in let i = older (a .change) (b .change) in rw (p, q) i
@@ -137,4 +138,4 @@ module _ (sec off : ℕ → ℤ) where
 
 -- The theorem: n rows that keep the rules mean offsets that are bounded and spaced.
 pub kept-lawful : (sec off : ℕ → ℤ) (k n : ℕ) → k < n → Kept sec off n → Bounded (held sec off k) × Spaced (held sec off k)
-kept-lawful sec off k n b all = let r = ruled sec off k n b all in (held-bounded sec off k r, held-spaced sec off k r)
+kept-lawful sec off k n b all = let r = ruled sec off k n b all in (held-bounded sec off k r, apart-spaced (held sec off k) (held-apart sec off k r))
