@@ -5,6 +5,7 @@ ghost use Rattle.std.specs.declared.result.Result.the-variants.{Err};
 ghost use Rattle.std.specs.Vec.{made};
 ghost use Rattle.clock.specs.Instants.{valid-epoch, within-limits, as-utc};
 ghost use Rattle.zoned.specs.Interpret.{local-at, time-shown, Sound};
+ghost use Rattle.zoned.specs.Right.{Offset-is};
 ghost use Rattle.calendar.specs.Gregorian.{Real};
 ghost use Rattle.sheet.specs.Refusals.{lifted};
 ghost use Rattle.sheet.specs.declared.SheetFault.the-variants.{BerthNumber};
@@ -130,14 +131,23 @@ fn try_new_with_cached_offset(
     })
 }
 
-// The arrival that a request brings about.
-pub fn arrive<P: Provider>(provider: &P, request: Request) -> Result<Arrival, ZonedFault>
+// The arrival that a request brings about, once the entry checks pass.
+fn checked_arrival<P: Provider>(provider: &P, request: Request) -> Result<Arrival, ZonedFault>
     ensures answer { λ r. ⌜ r ≡ arrived (means (now (provider .entry))) request ⌝ }
     ensures ranged { λ r. ⌜ made r (λ a. valid-epoch (a .instant) ≡ true) ⌝ }
 {
     check_entry(provider, request)?;
     let found = interpret_isodatetime_offset(provider, request)?;
     try_new_with_cached_offset(request.zone, found)
+}
+
+// The arrival that a request brings about: in range, and with its zone's own offset.
+pub fn arrive<P: Provider>(provider: &P, request: Request) -> Result<Arrival, ZonedFault>
+    ensures answer { λ r. ⌜ r ≡ arrived (means (now (provider .entry))) request ⌝ }
+    ensures ranged { λ r. ⌜ made r (λ a. valid-epoch (a .instant) ≡ true) ⌝ }
+    ensures right { λ r. ⌜ made r (λ a. Offset-is (means (now (provider .entry))) (a .zone) (a .instant .seconds) (a .offset)) ⌝ }
+{
+    checked_arrival(provider, request)
 }
 
 // The same for a berth, whose number is tried first.
@@ -148,6 +158,7 @@ pub(crate) fn arrive_at<P: Provider>(
 ) -> Result<Arrival, SheetFault>
     ensures answer { λ r. ⌜ r ≡ cond (is-berth berth) (lifted (arrived (means (now (provider .entry))) request)) (Err BerthNumber) ⌝ }
     ensures ranged { λ r. ⌜ made r (λ a. (valid-epoch (a .instant) ≡ true) × (is-berth berth ≡ true)) ⌝ }
+    ensures right { λ r. ⌜ made r (λ a. Offset-is (means (now (provider .entry))) (a .zone) (a .instant .seconds) (a .offset)) ⌝ }
 {
     if !is_berth(berth) {
         return Err(SheetFault::BerthNumber);

@@ -3,7 +3,9 @@ ghost use mathlib.Core.Path.{_≡_};
 ghost use mathlib.Core.Bool.{true};
 ghost use Prim.Native.Nat.{_≤_, _<_};
 ghost use lib.IntN.{natAbs};
+ghost use Rattle.std.specs.Vec.{made};
 ghost use Rattle.clock.specs.Instants.{valid-epoch};
+ghost use Rattle.zoned.specs.Right.{Offset-is};
 ghost use Rattle.sheet.specs.Calls.{blank, set-answer, stored, clear-answer, cleared, Read-answer, all-in-range, local-of};
 use crate::Arrival;
 use crate::Reading;
@@ -63,6 +65,7 @@ impl<P: Provider> Sheet<P> {
     pub fn set(&mut self, berth: u8, request: Request) -> Result<Arrival, Refusal>
         ensures answer { λ r. ⌜ r ≡ set-answer (means (now (self .entry) .provider)) berth request ⌝ }
         ensures after { λ r. ⌜ now (self .exit) .berths .rows ≡ stored (now (self .entry) .berths .rows) berth r ⌝ }
+        ensures right { λ r. ⌜ made r (λ a. Offset-is (means (now (self .entry) .provider)) (a .zone) (a .instant .seconds) (a .offset)) ⌝ }
         ensures keeps { λ _. ⌜ now (self .exit) .provider ≡ now (self .entry) .provider ⌝ }
     {
         match arrive_at(&self.provider, berth, request) {

@@ -43,8 +43,8 @@ pub enum SheetFault {
 pub impl From<ZonedFault> for SheetFault as SheetFromZoned {
     ghost converts = { λ fault r. r ≡ Raised fault };
 
-    fn from(fault: ZonedFault) -> SheetFault {
-        SheetFault::Zoned(fault)
+    fn from(lifted: ZonedFault) -> SheetFault {
+        SheetFault::Zoned(lifted)
     }
 }
 

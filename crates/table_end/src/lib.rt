@@ -58,8 +58,8 @@ impl<'a> RawTable<'a> {
         ensures bytes { λ r. ⌜ r .bytes ≡ self .entry .bytes ⌝ }
         ensures lawful { λ _. ⌜ Lawful (now (self .entry .bytes)) ⌝ }
     {
-        let RawTable { bytes } = self;
-        ProofedTable { bytes }
+        let RawTable { bytes: checked } = self;
+        ProofedTable { bytes: checked }
     }
 
     pub fn take_back(self) -> &'a [u8]

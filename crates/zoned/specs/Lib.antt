@@ -1,3 +1,4 @@
 pub mod Faults
 pub mod Instants
 pub mod Interpret
+pub mod Right

@@ -127,15 +127,15 @@ impl ZonedFault {
 pub impl From<ProviderFault> for ZoneFault as ZoneFromProvider {
     ghost converts = { λ fault r. r ≡ Carried fault };
 
-    fn from(fault: ProviderFault) -> ZoneFault {
-        ZoneFault::Provider(fault)
+    fn from(carried: ProviderFault) -> ZoneFault {
+        ZoneFault::Provider(carried)
     }
 }
 
 pub impl From<ZoneFault> for ZonedFault as ZonedFromZone {
     ghost converts = { λ fault r. r ≡ Raised fault };
 
-    fn from(fault: ZoneFault) -> ZonedFault {
-        ZonedFault::Zone(fault)
+    fn from(raised: ZoneFault) -> ZonedFault {
+        ZonedFault::Zone(raised)
     }
 }
