@@ -7,10 +7,11 @@ use Rattle.std.specs.Vec.{made}
 use Rattle.clock.specs.Instants.{valid-epoch}
 use Rattle.provider.specs.Meaning.{Meaning}
 use Rattle.zoned.specs.Interpret.{interpreted}
-use Rattle.zoned.specs.Right.{Offset-is, Answer-right}
+use Rattle.time_zone.specs.Right.{Offset-is}
+use Rattle.zoned.specs.Right.{Answer-right}
 use Rattle.zoned.specs.declared.EpochNanosecondsAndOffset.{EpochNanosecondsAndOffset}
 use Rattle.zoned.specs.declared.Request.{Request}
-use Rattle.zoned.specs.declared.TimeZone.{TimeZone}
+use Rattle.time_zone.specs.declared.TimeZone.{TimeZone}
 use Rattle.zoned.specs.declared.ZonedFault.{ZonedFault}
 use Rattle.zoned.specs.declared.ZonedFault.the-variants.{Range}
 use Rattle.zoned.proofs.Kept.{interpreted-right}

@@ -20,10 +20,10 @@ use Rattle.provider.specs.Meaning.{Zone, unknown, known, Meaning}
 use Rattle.provider.specs.declared.ProviderFault.the-variants.{UnknownZone}
 use Rattle.zoned.specs.Interpret.{local-at, time-shown, interpreted}
 use Rattle.zoned.specs.declared.Request.{Request}
-use Rattle.zoned.specs.declared.TimeZone.{TimeZone}
-use Rattle.zoned.specs.declared.TimeZone.the-variants.{Named, Fixed}
+use Rattle.time_zone.specs.declared.TimeZone.{TimeZone}
+use Rattle.time_zone.specs.declared.TimeZone.the-variants.{Named, Fixed}
 use Rattle.zoned.specs.declared.EpochNanosecondsAndOffset.{EpochNanosecondsAndOffset}
-use Rattle.zoned.specs.declared.ZoneFault.the-variants.{Provider, FixedMinutes}
+use Rattle.time_zone.specs.declared.ZoneFault.the-variants.{Provider, FixedMinutes}
 use Rattle.zoned.specs.declared.ZonedFault.{ZonedFault}
 use Rattle.zoned.specs.declared.ZonedFault.the-variants.{Zone as Raised, Value, Unit as Unit-fault, Range}
 use Rattle.sheet.specs.Refusals.{at-berth, lifted}

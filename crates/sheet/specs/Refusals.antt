@@ -7,8 +7,8 @@ use Rattle.std.specs.declared.result.Result.the-variants.{Ok, Err}
 use Rattle.provider.specs.Answer.{source-of}
 use Rattle.provider.specs.declared.Source.{Source}
 use Rattle.zoned.specs.Faults.{zoned-number}
-use Rattle.zoned.specs.declared.ZoneFault.{ZoneFault}
-use Rattle.zoned.specs.declared.ZoneFault.the-variants.{Provider, FixedMinutes, Range, Ambiguous}
+use Rattle.time_zone.specs.declared.ZoneFault.{ZoneFault}
+use Rattle.time_zone.specs.declared.ZoneFault.the-variants.{Provider, FixedMinutes, Range, Ambiguous}
 use Rattle.zoned.specs.declared.ZonedFault.{ZonedFault}
 use Rattle.zoned.specs.declared.ZonedFault.the-variants.{Zone, Value, Unit as Unit-fault, Duration, Range as Limits, NoMatch, OppositeSigns, BeforeDay}
 use Rattle.sheet.specs.declared.Layer.{Layer}

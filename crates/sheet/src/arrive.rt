@@ -5,7 +5,7 @@ ghost use Rattle.std.specs.declared.result.Result.the-variants.{Err};
 ghost use Rattle.std.specs.Vec.{made};
 ghost use Rattle.clock.specs.Instants.{valid-epoch, within-limits, as-utc};
 ghost use Rattle.zoned.specs.Interpret.{local-at, time-shown, Sound};
-ghost use Rattle.zoned.specs.Right.{Offset-is};
+ghost use Rattle.time_zone.specs.Right.{Offset-is};
 ghost use Rattle.calendar.specs.Gregorian.{Real};
 ghost use Rattle.sheet.specs.Refusals.{lifted};
 ghost use Rattle.sheet.specs.declared.SheetFault.the-variants.{BerthNumber};
@@ -23,15 +23,14 @@ use clock::is_valid_time;
 use clock::is_within_limits;
 use clock::utc_timespec;
 use provider::Provider;
+use time_zone::TimeZone;
+use time_zone::ZoneFault;
+use time_zone::possible::get_offset_for;
 use zoned::EpochNanosecondsAndOffset;
 use zoned::Request;
-use zoned::TimeZone;
-use zoned::ZoneFault;
-use zoned::ZoneFromProvider;
 use zoned::ZonedFault;
 use zoned::ZonedFromZone;
 use zoned::interpret::interpret_isodatetime_offset;
-use zoned::time_zone::get_offset_for;
 
 // The zone is known to the provider, or its fixed minutes are less than a day.
 fn check_zone<P: Provider>(provider: &P, zone: TimeZone) -> Result<(), ZonedFault>

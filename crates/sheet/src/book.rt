@@ -5,7 +5,7 @@ ghost use Prim.Native.Nat.{_≤_, _<_};
 ghost use lib.IntN.{natAbs};
 ghost use Rattle.std.specs.Vec.{made};
 ghost use Rattle.clock.specs.Instants.{valid-epoch};
-ghost use Rattle.zoned.specs.Right.{Offset-is};
+ghost use Rattle.time_zone.specs.Right.{Offset-is};
 ghost use Rattle.sheet.specs.Calls.{blank, set-answer, stored, clear-answer, cleared, Read-answer, all-in-range, local-of};
 use crate::Arrival;
 use crate::Reading;

@@ -1,13 +1,12 @@
 // The arrivals sheet: 99 berths over any provider, each empty or holding an arrival.
 ghost use mathlib.Core.Path.{_≡_};
-ghost use Rattle.sheet.specs.Refusals.{sheet-number, sheet-layer, refusal-number, refusal-layer, refusal-source};
+ghost use Rattle.sheet.specs.Refusals.{refusal-number, refusal-layer, refusal-source};
 ghost use Rattle.sheet.specs.declared.SheetFault.the-variants.{Zoned as Raised};
 use clock::IsoDateTime;
 use clock::Timespec;
-use provider::ProviderFault;
 use provider::Source;
-use zoned::TimeZone;
-use zoned::ZoneFault;
+use time_zone::TimeZone;
+use time_zone::ZoneFault;
 use zoned::ZonedFault;
 
 pub mod arrive;
@@ -64,11 +63,11 @@ pub struct Refusal {
     pub fault: SheetFault,
 }
 
-impl SheetFault {
+impl Refusal {
     pub fn number(self) -> u8
-        ensures { λ r. ⌜ r ≡ sheet-number self ⌝ }
+        ensures { λ r. ⌜ r ≡ refusal-number self ⌝ }
     {
-        match self {
+        match self.fault {
             SheetFault::BerthNumber => 1,
             SheetFault::Empty => 2,
             SheetFault::Zoned(fault) => fault.number(),
@@ -76,28 +75,14 @@ impl SheetFault {
     }
 
     pub fn layer(self) -> Layer
-        ensures { λ r. ⌜ r ≡ sheet-layer self ⌝ }
+        ensures { λ r. ⌜ r ≡ refusal-layer self ⌝ }
     {
-        match self {
+        match self.fault {
             SheetFault::Zoned(ZonedFault::Zone(ZoneFault::Provider(_))) => Layer::Provider,
             SheetFault::Zoned(ZonedFault::Zone(_)) => Layer::Zone,
             SheetFault::Zoned(_) => Layer::Zoned,
             _ => Layer::Sheet,
         }
-    }
-}
-
-impl Refusal {
-    pub fn number(self) -> u8
-        ensures { λ r. ⌜ r ≡ refusal-number self ⌝ }
-    {
-        self.fault.number()
-    }
-
-    pub fn layer(self) -> Layer
-        ensures { λ r. ⌜ r ≡ refusal-layer self ⌝ }
-    {
-        self.fault.layer()
     }
 
     // The end that refused and the zone number as asked there, where the provider did.

@@ -2,18 +2,10 @@
 use Prim.Native.Nat.{ℕ}
 use Rattle.std.specs.declared.result.Result.{Result}
 use Rattle.std.specs.declared.result.Result.the-variants.{Ok, Err}
-use Rattle.provider.specs.Answer.{fault-number}
-use Rattle.provider.specs.declared.ProviderFault.{ProviderFault}
-use Rattle.zoned.specs.declared.ZoneFault.{ZoneFault}
-use Rattle.zoned.specs.declared.ZoneFault.the-variants.{Provider, FixedMinutes, Range, Ambiguous}
+use Rattle.time_zone.specs.Faults.{zone-number}
+use Rattle.time_zone.specs.declared.ZoneFault.{ZoneFault}
 use Rattle.zoned.specs.declared.ZonedFault.{ZonedFault}
 use Rattle.zoned.specs.declared.ZonedFault.the-variants.{Zone, Value, Unit as Unit-fault, Duration, Range as Limits, NoMatch, OppositeSigns, BeforeDay}
-
-abbrev pub zone-number : ZoneFault → ℕ
-zone-number (Provider e) = fault-number e
-zone-number FixedMinutes = 3
-zone-number Range = 7
-zone-number Ambiguous = 8
 
 abbrev pub zoned-number : ZonedFault → ℕ
 zoned-number (Zone e) = zone-number e
@@ -24,11 +16,6 @@ zoned-number Limits = 7
 zoned-number NoMatch = 9
 zoned-number OppositeSigns = 10
 zoned-number BeforeDay = 11
-
--- The provider's refusal, carried whole inside the zone's.
-abbrev pub carried : {A : Type 0} → Result A ProviderFault → Result A ZoneFault
-carried (Ok x) = Ok x
-carried (Err e) = Err (Provider e)
 
 -- The zone's refusal, carried whole inside that of the zoned operation.
 abbrev pub raised : {A : Type 0} → Result A ZoneFault → Result A ZonedFault

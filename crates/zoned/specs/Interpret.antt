@@ -21,14 +21,14 @@ use Rattle.clock.specs.declared.Timespec.{Timespec}
 use Rattle.clock.specs.Clock.{shown}
 use Rattle.clock.specs.Instants.{as-utc, within-limits}
 use Rattle.zoned.specs.Faults.{raised}
-use Rattle.zoned.specs.Instants.{offset-in, day-ranged, valid-at, possible, disambiguated, resolved, start-of-day}
-use Rattle.zoned.specs.declared.TimeZone.{TimeZone}
-use Rattle.zoned.specs.declared.Disambiguation.{Disambiguation}
+use Rattle.time_zone.specs.Instants.{offset-in, day-ranged, valid-at, possible, disambiguated, resolved, start-of-day}
+use Rattle.time_zone.specs.declared.TimeZone.{TimeZone}
+use Rattle.time_zone.specs.declared.Disambiguation.{Disambiguation}
 use Rattle.zoned.specs.declared.OffsetDisambiguation.{OffsetDisambiguation}
 use Rattle.zoned.specs.declared.OffsetDisambiguation.the-variants.{Use, Prefer, Ignore, Reject}
 use Rattle.zoned.specs.declared.EpochNanosecondsAndOffset.{EpochNanosecondsAndOffset}
 use Rattle.zoned.specs.declared.Request.{Request}
-use Rattle.zoned.specs.declared.ZoneFault.{ZoneFault}
+use Rattle.time_zone.specs.declared.ZoneFault.{ZoneFault}
 use Rattle.zoned.specs.declared.ZonedFault.{ZonedFault}
 use Rattle.zoned.specs.declared.ZonedFault.the-variants.{Range, NoMatch}
 

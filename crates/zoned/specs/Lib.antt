@@ -1,4 +1,3 @@
 pub mod Faults
-pub mod Instants
 pub mod Interpret
 pub mod Right

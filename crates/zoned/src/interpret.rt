@@ -10,19 +10,12 @@ ghost use Rattle.rounding.specs.Rounding.{roundedTo};
 ghost use Rattle.rounding.specs.declared.RoundingMode.the-variants.{HalfExpand};
 ghost use Rattle.zoned.specs.Interpret.{offset-matches, first-match, at-instant, exactly, unmatched as unmatched-of, matched, by-offset, local-at, interpreted, Sound, with-nanos};
 ghost use Rattle.zoned.specs.Faults.{raised};
-ghost use Rattle.zoned.specs.Instants.{disambiguated, resolved};
+ghost use Rattle.time_zone.specs.Instants.{disambiguated, resolved};
 use crate::EpochNanosecondsAndOffset;
 use crate::OffsetDisambiguation;
 use crate::Request;
-use crate::TimeZone;
 use crate::ZonedFault;
 use crate::ZonedFromZone;
-use crate::time_zone::day_within;
-use crate::time_zone::disambiguate_possible_epoch_nanos;
-use crate::time_zone::get_epoch_nanoseconds_for;
-use crate::time_zone::get_offset_for;
-use crate::time_zone::get_possible_epoch_ns_for;
-use crate::time_zone::get_start_of_day;
 use calendar::IsoDate;
 use clock::IsoTime;
 use clock::Timespec;
@@ -34,6 +27,13 @@ use provider::Provider;
 use rounding::I64Roundable;
 use rounding::IncrementRounder;
 use rounding::RoundingMode;
+use time_zone::TimeZone;
+use time_zone::possible::day_within;
+use time_zone::possible::get_offset_for;
+use time_zone::possible::get_possible_epoch_ns_for;
+use time_zone::resolve::disambiguate_possible_epoch_nanos;
+use time_zone::resolve::get_epoch_nanoseconds_for;
+use time_zone::resolve::get_start_of_day;
 
 // An offset rounded to whole minutes, a half away from zero; both in seconds.
 fn rounded_to_minutes(offset: i32) -> i64

@@ -1,31 +1,15 @@
-// Zoned operations: from a local time to the instant that it stands for, over any provider.
+// Zoned operations: the instant that a request stands for, by its time, exact mark, offset and policy, over any provider.
 ghost use mathlib.Core.Path.{_≡_};
-ghost use Rattle.zoned.specs.Faults.{zone-number, zoned-number};
-ghost use Rattle.zoned.specs.declared.ZoneFault.the-variants.{Provider as Carried};
+ghost use Rattle.zoned.specs.Faults.{zoned-number};
 ghost use Rattle.zoned.specs.declared.ZonedFault.the-variants.{Zone as Raised};
 use calendar::IsoDate;
 use clock::IsoTime;
 use clock::Timespec;
-use provider::ProviderFault;
+use time_zone::Disambiguation;
+use time_zone::TimeZone;
+use time_zone::ZoneFault;
 
 pub mod interpret;
-pub mod time_zone;
-
-// A named zone, by its number at the provider, or a fixed offset in minutes.
-#[derive(Clone, Copy)]
-pub enum TimeZone {
-    Named(u16),
-    Fixed(i16),
-}
-
-// Which instant a local time stands for where two read it, or none.
-#[derive(Clone, Copy)]
-pub enum Disambiguation {
-    Compatible,
-    Earlier,
-    Later,
-    Reject,
-}
 
 // What becomes of an offset that is given beside a local time.
 #[derive(Clone, Copy)]
@@ -58,32 +42,6 @@ pub struct Request {
 pub struct EpochNanosecondsAndOffset {
     pub ns: Timespec,
     pub offset: i32,
-}
-
-// Why possible instants were not found or not resolved.
-#[derive(Clone, Copy)]
-pub enum ZoneFault {
-    // The provider's own fault, carried whole.
-    Provider(ProviderFault),
-    // The minutes of a fixed zone are a day or more.
-    FixedMinutes,
-    // A date or an instant is outside its limits.
-    Range,
-    // None or two instants, and none may be chosen.
-    Ambiguous,
-}
-
-impl ZoneFault {
-    pub fn number(self) -> u8
-        ensures { λ r. ⌜ r ≡ zone-number self ⌝ }
-    {
-        match self {
-            ZoneFault::Provider(fault) => fault.number(),
-            ZoneFault::FixedMinutes => 3,
-            ZoneFault::Range => 7,
-            ZoneFault::Ambiguous => 8,
-        }
-    }
 }
 
 // Why a zoned operation was refused.
@@ -121,14 +79,6 @@ impl ZonedFault {
             ZonedFault::OppositeSigns => 10,
             ZonedFault::BeforeDay => 11,
         }
-    }
-}
-
-pub impl From<ProviderFault> for ZoneFault as ZoneFromProvider {
-    ghost converts = { λ fault r. r ≡ Carried fault };
-
-    fn from(carried: ProviderFault) -> ZoneFault {
-        ZoneFault::Provider(carried)
     }
 }
 

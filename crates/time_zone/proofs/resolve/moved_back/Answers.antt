@@ -5,7 +5,7 @@ use mir.Syntax.{w64}
 use mir.Val.{toZ, ofZ}
 use Rattle.std.proofs.shelf.Signed.{ints}
 use Rattle.clock.specs.declared.Timespec.{Timespec}
-use Rattle.zoned.proofs.time_zone.moved_back.Needs as need
+use Rattle.time_zone.proofs.resolve.moved_back.Needs as need
 
 pub returns : need.returns
 returns c =
