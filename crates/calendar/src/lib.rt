@@ -10,13 +10,13 @@ ghost use lib.IntN.{natAbs};
 ghost use lib.Signed.{_<ℤ_};
 use std::cmp::Ordering;
 
-pub fn is_leap(year: i32) -> bool
+fn is_leap(year: i32) -> bool
     ensures { λ r. ⌜ r ≡ leap year ⌝ }
 {
     year % 4 == 0 && (year % 100 != 0 || year % 400 == 0)
 }
 
-pub fn month_length(leap_year: bool, month: u8) -> u8
+fn month_length(leap_year: bool, month: u8) -> u8
     ensures { λ r. ⌜ r ≡ monthLength «leap_year» month ⌝ }
 {
     match month {
@@ -30,7 +30,7 @@ pub fn month_length(leap_year: bool, month: u8) -> u8
 const BEFORE: [u16; 12] = [0, 31, 59, 90, 120, 151, 181, 212, 243, 273, 304, 334];
 
 // The days of the months before `month`.
-pub fn days_before_month(leap_year: bool, month: u8) -> u16
+fn days_before_month(leap_year: bool, month: u8) -> u16
     requires { ⌜ 1 ≤ month ⌝ ∗ ⌜ month ≤ 12 ⌝ }
     ensures { λ r. ⌜ r ≡ monthsBefore «leap_year» (month - 1) ⌝ }
 {
@@ -51,7 +51,7 @@ fn leap_days(past: i64) -> i64
     past.div_euclid(4) - past.div_euclid(100) + past.div_euclid(400)
 }
 
-pub fn year_start(year: i32) -> i64
+fn year_start(year: i32) -> i64
     ensures value { λ r. ⌜ r ≡ yearStart year ⌝ }
     ensures bounds { λ r. ⌜ natAbs r ≤ 1000000000000 ⌝ }
 {

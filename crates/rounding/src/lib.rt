@@ -30,7 +30,7 @@ pub enum UnsignedRoundingMode {
     HalfToEven,
 }
 
-pub fn get_unsigned_rounding_mode(mode: RoundingMode, positive: bool) -> UnsignedRoundingMode
+fn get_unsigned_rounding_mode(mode: RoundingMode, positive: bool) -> UnsignedRoundingMode
     ensures { λ r. ⌜ r ≡ unsignedOf mode positive ⌝ }
 {
     match (mode, positive) {
@@ -93,7 +93,7 @@ pub trait Roundable: Copy {
 }
 
 // A dividend that is not negative, rounded to a multiple of the divisor.
-pub fn apply_unsigned<N: Roundable>(dividend: N, divisor: N, mode: UnsignedRoundingMode) -> N
+fn apply_unsigned<N: Roundable>(dividend: N, divisor: N, mode: UnsignedRoundingMode) -> N
     requires { ⌜ Holds (nonNeg (N·Roundable .value dividend)) ⌝ ∗ ⌜ Holds (ltZ (pos 0) (N·Roundable .value divisor)) ⌝ ∗ ⌜ N·Roundable .room dividend divisor ⌝ }
     ensures worth { λ r. ⌜ N·Roundable .value r ≡ pos (applied mode (natAbs (N·Roundable .value dividend)) (natAbs (N·Roundable .value divisor)) * natAbs (N·Roundable .value divisor)) ⌝ }
     ensures turning { λ r. ⌜ N·Roundable .turns r ⌝ }

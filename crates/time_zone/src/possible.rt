@@ -3,7 +3,7 @@ ghost use mathlib.Core.Path.{_≡_};
 ghost use Prim.Native.Nat.{_≤_};
 ghost use lib.IntN.{pos, natAbs, _-ℤ_, _*ℤ_};
 ghost use Rattle.time_zone.specs.Faults.{carried};
-ghost use Rattle.time_zone.specs.Instants.{offset-in, day-within, valid-at, candidates-in, all-valid, possible};
+ghost use Rattle.time_zone.specs.Instants.{offset-in, day-within, day-ranged, valid-at, candidates-in, all-valid, possible};
 ghost use Rattle.provider.specs.Answer.{candidates-answer};
 use crate::TimeZone;
 use crate::ZoneFault;
@@ -34,12 +34,19 @@ pub fn get_offset_for<P: Provider>(
 }
 
 // Whether the date of a local time is at most so many days from 1970-01-01.
-pub fn day_within(days: i64, local: Timespec) -> bool
+pub(crate) fn day_within(days: i64, local: Timespec) -> bool
     requires { ⌜ natAbs days ≤ 100000001 ⌝ }
     ensures { λ r. ⌜ r ≡ day-within days (local .seconds) ⌝ }
 {
     let day = local.seconds.div_euclid(SECONDS_PER_DAY);
     -days <= day && day <= days
+}
+
+// Whether the date of a local time is at most 100,000,000 days from 1970-01-01.
+pub fn is_valid_day_range(local: Timespec) -> bool
+    ensures { λ r. ⌜ r ≡ day-ranged (local .seconds) ⌝ }
+{
+    day_within(100_000_000, local)
 }
 
 // The instant that reads the local time in a fixed zone.
@@ -80,7 +87,7 @@ fn candidates_for<P: Provider>(
             only: reading(local, minutes),
         }),
         TimeZone::Named(number) => {
-            if !day_within(100_000_000, local) {
+            if !is_valid_day_range(local) {
                 return Err(ZoneFault::Range);
             }
             named_candidates(provider, number, local)

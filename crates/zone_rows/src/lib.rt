@@ -1,13 +1,11 @@
-// Rows of a zone, and the rules that they keep. Rows are read from little-endian bytes.
+// Rows of a zone, and the rules that they keep.
 ghost use mathlib.Core.Path.{_≡_};
 ghost use mathlib.Core.Bool.{not};
-ghost use Prim.Native.Nat.{_+_, _≤_};
+ghost use Prim.Native.Nat.{_≤_};
 ghost use lib.IntN.{pos, _-ℤ_, natAbs};
 ghost use lib.Signed.{_<ℤ_, _≤ℤ_};
-ghost use lib.ListN.{length};
 ghost use Rattle.zone_rows.specs.Rows.{in-day, first-row, later-row, apart};
 ghost use Rattle.offsets.specs.Possible.{eqZ};
-ghost use Rattle.zone_rows.specs.Bytes.{le16, le32, le64};
 
 pub const SPAN: i64 = 8_640_000_259_200;
 
@@ -16,36 +14,6 @@ pub const SPAN: i64 = 8_640_000_259_200;
 pub struct Row {
     pub second: i64,
     pub offset: i32,
-}
-
-pub fn read_u16(bytes: &[u8], at: usize) -> u16
-    requires { ⌜ at + 2 ≤ length (now bytes) ⌝ }
-    ensures { λ r. ⌜ r ≡ le16 (now (bytes .entry)) at ⌝ }
-{
-    u16::from_le_bytes([bytes[at], bytes[at + 1]])
-}
-
-pub fn read_i32(bytes: &[u8], at: usize) -> i32
-    requires { ⌜ at + 4 ≤ length (now bytes) ⌝ }
-    ensures { λ r. ⌜ r ≡ le32 (now (bytes .entry)) at ⌝ }
-{
-    i32::from_le_bytes([bytes[at], bytes[at + 1], bytes[at + 2], bytes[at + 3]])
-}
-
-pub fn read_i64(bytes: &[u8], at: usize) -> i64
-    requires { ⌜ at + 8 ≤ length (now bytes) ⌝ }
-    ensures { λ r. ⌜ r ≡ le64 (now (bytes .entry)) at ⌝ }
-{
-    i64::from_le_bytes([
-        bytes[at],
-        bytes[at + 1],
-        bytes[at + 2],
-        bytes[at + 3],
-        bytes[at + 4],
-        bytes[at + 5],
-        bytes[at + 6],
-        bytes[at + 7],
-    ])
 }
 
 // The offset is less than a day either way.

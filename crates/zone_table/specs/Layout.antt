@@ -10,7 +10,7 @@ use Rattle.std.specs.declared.option.Option.{Option}
 use Rattle.std.specs.declared.option.Option.the-variants.{Some, None}
 use Rattle.std.specs.declared.result.Result.{Result}
 use Rattle.std.specs.declared.result.Result.the-variants.{Ok, Err}
-use Rattle.zone_rows.specs.Bytes.{le16, le32, le64}
+use Rattle.zone_table.specs.Bytes.{le16, le32, le64}
 use Rattle.zone_rows.specs.Rows.{held, keeps}
 use Rattle.zone_table.specs.declared.TableFault.{TableFault}
 use Rattle.zone_table.specs.declared.TableFault.the-variants.{Sizes, BrokenRow}

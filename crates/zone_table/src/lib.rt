@@ -5,12 +5,15 @@ ghost use lib.Dec.{eqb};
 ghost use Prim.Native.Nat.{_+_, _*_, _≤_, _<_};
 ghost use lib.ListN.{length};
 ghost use Rattle.zone_table.specs.Layout.{zones as zone-count, rows as row-count, count as count-of, start as start-of, second-at, offset-at, filled, laid, failing, keeps-at, breach, check-answer, Weighed, number as number-of};
+
+mod bytes;
+
+use crate::bytes::read_i32;
+use crate::bytes::read_i64;
+use crate::bytes::read_u16;
 use zone_rows::Row;
 use zone_rows::begins;
 use zone_rows::follows;
-use zone_rows::read_i32;
-use zone_rows::read_i64;
-use zone_rows::read_u16;
 use zone_rows::stands_apart;
 
 #[derive(Clone, Copy)]
@@ -105,7 +108,7 @@ fn fills(bytes: &[u8], zones: usize, rows: usize) -> bool
 }
 
 // The bytes keep the layout.
-pub fn sizes(bytes: &[u8]) -> bool
+fn sizes(bytes: &[u8]) -> bool
     ensures { λ r. ⌜ r ≡ laid (now (bytes .entry)) ⌝ }
 {
     if bytes.len() < 4 {

@@ -28,9 +28,9 @@ use rounding::I64Roundable;
 use rounding::IncrementRounder;
 use rounding::RoundingMode;
 use time_zone::TimeZone;
-use time_zone::possible::day_within;
 use time_zone::possible::get_offset_for;
 use time_zone::possible::get_possible_epoch_ns_for;
+use time_zone::possible::is_valid_day_range;
 use time_zone::resolve::disambiguate_possible_epoch_nanos;
 use time_zone::resolve::get_epoch_nanoseconds_for;
 use time_zone::resolve::get_start_of_day;
@@ -162,7 +162,7 @@ fn by_offset<P: Provider>(
     requires { ⌜ natAbs (local .seconds) ≤ 8640000259200 ⌝ }
     ensures { λ r. ⌜ r ≡ matched (means (now (provider .entry))) request (local .seconds) (local .nanos) given ⌝ }
 {
-    if !day_within(100_000_000, local) {
+    if !is_valid_day_range(local) {
         return Err(ZonedFault::Range);
     }
     let possible = get_possible_epoch_ns_for(provider, request.zone, local)?;

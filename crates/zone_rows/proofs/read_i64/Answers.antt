@@ -1,7 +1,0 @@
-use borrow.Author.Needs.{needs}
-use Rattle.zone_rows.specs.Bytes.{le64}
-use Rattle.zone_rows.proofs.read_i64.Needs as need
-
-pub returns : need.returns
-unfolding le64
-returns c = search needs

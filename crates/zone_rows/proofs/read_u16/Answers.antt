@@ -1,7 +1,0 @@
-use borrow.Author.Needs.{needs}
-use Rattle.zone_rows.specs.Bytes.{le16}
-use Rattle.zone_rows.proofs.read_u16.Needs as need
-
-pub returns : need.returns
-unfolding le16
-returns c = search needs
