@@ -141,7 +141,7 @@ fn checked_arrival<P: Provider>(provider: &P, request: Request) -> Result<Arriva
 }
 
 // The arrival that a request brings about: in range, and with its zone's own offset.
-pub fn arrive<P: Provider>(provider: &P, request: Request) -> Result<Arrival, ZonedFault>
+pub(crate) fn arrive<P: Provider>(provider: &P, request: Request) -> Result<Arrival, ZonedFault>
     ensures answer { λ r. ⌜ r ≡ arrived (means (now (provider .entry))) request ⌝ }
     ensures ranged { λ r. ⌜ made r (λ a. valid-epoch (a .instant) ≡ true) ⌝ }
     ensures right { λ r. ⌜ made r (λ a. Offset-is (means (now (provider .entry))) (a .zone) (a .instant .seconds) (a .offset)) ⌝ }

@@ -9,8 +9,8 @@ use time_zone::TimeZone;
 use time_zone::ZoneFault;
 use zoned::ZonedFault;
 
-pub mod arrive;
-pub mod berths;
+mod arrive;
+mod berths;
 pub mod book;
 
 // A zone, an instant, and the zone's offset at that instant, in seconds.
