@@ -64,13 +64,13 @@ impl<'a> RawTable<'a> {
 }
 
 impl<'a> ProofedTable<'a> {
-    pub fn zones(&self) -> usize
+    fn zones(&self) -> usize
         ensures { λ r. ⌜ r ≡ zone-count (now (now (self .entry) .bytes)) ⌝ }
     {
         zones(self.bytes)
     }
 
-    pub fn rows(&self) -> usize
+    fn rows(&self) -> usize
         ensures { λ r. ⌜ r ≡ row-count (now (now (self .entry) .bytes)) ⌝ }
     {
         rows(self.bytes)
