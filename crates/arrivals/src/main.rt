@@ -1,4 +1,6 @@
 // Reads a script from standard input, runs it over an arrivals sheet, and prints an answer for each call.
+#![tactic(auto)]
+
 use crate::help::HELP;
 use crate::run::run;
 use crate::session::Session;

@@ -1,4 +1,6 @@
 // The proleptic Gregorian calendar.
+#![tactic(auto)]
+
 ghost use Rattle.std.specs.Prelude.{◌≡◌, ◌+◌, ◌-◌, ◌<◌, ◌≤◌, true, cond, ◌<ℤ◌, unsigned_abs};
 ghost use Rattle.calendar.specs.Gregorian.{leap, month_length, months_before, year_start, epoch_days, day_of, Real, valid_date};
 ghost use Rattle.calendar.specs.Parts.{leap_days, years_from, Placed};

@@ -1,4 +1,6 @@
 // The time of day, the pair of seconds and nanoseconds, and a local date-time counted as if in UTC.
+#![tactic(auto)]
+
 ghost use Rattle.std.specs.Prelude.{◌≡◌, true, ◌≤◌, ◌<◌, nat_abs};
 ghost use Rattle.calendar.specs.Gregorian.{Real};
 ghost use Rattle.clock.specs.Clock.{shown, since_midnight};

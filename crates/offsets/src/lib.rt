@@ -1,4 +1,6 @@
 // A zone's offset as a function of whole seconds: what reads a local time, and what the laws of offsets bring about.
+#![tactic(auto)]
+
 ghost use Rattle.offsets.specs.Laws.{AllApart, AtMostTwo, TwoByOne, GapOrReader, OneGap, OneAnswer, SomeAnswer, MovedTimes, Beginnings};
 
 // An instant, in whole seconds, and the offset there.

@@ -1,4 +1,6 @@
 // Time-zone providers: what a zone number means, and the questions that any provider answers by that meaning.
+#![tactic(auto)]
+
 ghost use Rattle.std.specs.Prelude.{◌≡◌, ℕ};
 ghost use Rattle.offsets.specs.Offsets.{Bounded, Spaced};
 ghost use Rattle.provider.specs.Meaning.{Meaning, Each};

@@ -1,4 +1,6 @@
 // Rounding to an increment: one text for every number type that can be rounded, the sign kept apart, nine modes.
+#![tactic(auto)]
+
 ghost use Rattle.std.specs.Prelude.{◌≡◌, ℕ, ◌+◌, ◌*◌, ◌/◌, ◌%◌, ◌^◌, ◌<◌, ◌≤◌, Bool, true, false, not, T as Holds, ℤ, pos, neg_ℤ, ◌==◌, int_lt, unsigned_abs};
 ghost use Rattle.std.specs.Int.Signed.{non_neg};
 ghost use Rattle.rounding.specs.Rounding.{unsigned_of, half_of, applied, rounded_to};

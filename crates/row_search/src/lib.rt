@@ -1,4 +1,6 @@
 // Row search in lent bytes: the offset that a zone's rows hold at a second, and what reads a local time by them.
+#![tactic(auto)]
+
 ghost use Rattle.std.specs.Prelude.{◌≡◌, ◌+◌, ◌*◌, ◌<◌, ◌≤◌, ◌⊎◌, length, pos, negsuc, ◌-ℤ◌, ◌≤ℤ◌, ◌<ℤ◌};
 ghost use Rattle.offsets.specs.Readers.{Found};
 ghost use Rattle.zone_rows.specs.Rows.{held, Kept};

@@ -1,4 +1,6 @@
 // The arrivals sheet: 99 berths over any provider, each empty or holding an arrival.
+#![tactic(auto)]
+
 ghost use Rattle.std.specs.Prelude.{◌≡◌};
 ghost use Rattle.sheet.specs.Refusals.{refusal_number, refusal_layer, refusal_source};
 ghost use Rattle.sheet.specs.declared.SheetFault.TheVariants.{Zoned as Raised};

@@ -1,5 +1,7 @@
 // The table end: a loaded table is raw until it is proofed, and a proofed table is a provider.
 // Neither type is `Drop`, so its bytes are always taken back.
+#![tactic(auto)]
+
 ghost use Rattle.std.specs.Prelude.{◌≡◌};
 ghost use Rattle.zone_table.specs.Layout.{zones as zone_count, rows as row_count, check_answer, Sound, Weighed};
 ghost use Rattle.table_end.specs.Table.{told};

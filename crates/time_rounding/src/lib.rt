@@ -1,4 +1,6 @@
 // Rounding a time of day to an increment of a unit.
+#![tactic(auto)]
+
 ghost use Rattle.std.specs.Prelude.{◌≡◌, ◌+◌, ◌*◌, ◌<◌, ◌≤◌, true, pos, unsigned_abs};
 ghost use Rattle.clock.specs.Clock.{shown};
 ghost use Rattle.rounding.specs.Rounding.{rounded_to};

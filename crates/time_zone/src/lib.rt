@@ -1,4 +1,6 @@
 // Time zones: the instants that a local time may stand for in a zone, and the one that is chosen, over any provider.
+#![tactic(auto)]
+
 ghost use Rattle.std.specs.Prelude.{◌≡◌};
 ghost use Rattle.time_zone.specs.Faults.{zone_number};
 ghost use Rattle.time_zone.specs.declared.ZoneFault.TheVariants.{Provider as Carried};

@@ -1,4 +1,6 @@
 // Rows of a zone, and the rules that they keep.
+#![tactic(auto)]
+
 ghost use Rattle.std.specs.Prelude.{◌≡◌, ◌≤◌, not, pos, ◌-ℤ◌, ◌≤ℤ◌, ◌<ℤ◌, unsigned_abs};
 ghost use Rattle.zone_rows.specs.Rows.{in_day, first_row, later_row, apart};
 ghost use Rattle.offsets.specs.Possible.{eq_z};

@@ -1,4 +1,6 @@
 // The check of a table's bytes: the layout first, then each row.
+#![tactic(auto)]
+
 ghost use Rattle.std.specs.Prelude.{◌≡◌, ◌+◌, ◌*◌, ◌<◌, ◌≤◌, true, ◌&&◌, length, ◌==◌};
 ghost use Rattle.zone_table.specs.Layout.{zones as zone_count, rows as row_count, count as count_of, start as start_of_lem, second_at, offset_at, filled, laid, failing, keeps_at, breach, check_answer, Weighed, number as number_of_lem};
 

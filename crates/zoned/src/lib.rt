@@ -1,4 +1,6 @@
 // Zoned operations: the instant that a request stands for, by its time, exact mark, offset and policy, over any provider.
+#![tactic(auto)]
+
 ghost use Rattle.std.specs.Prelude.{◌≡◌};
 ghost use Rattle.zoned.specs.Faults.{zoned_number};
 ghost use Rattle.zoned.specs.declared.ZonedFault.TheVariants.{Zone as Raised};

@@ -25,11 +25,11 @@ returns c =
     record {
       apart = spaced_apart;
       at_most_two = λ f s L t u v r q p h k. no_three f (spaced_apart f s) t u v h k (r ∙ sym q) (q ∙ sym p);
-      two-by-one = λ f s L t u r q h. doubled f (spaced_apart f s) t u h (r ∙ sym q);
-      gap-or-reader = record { gap = no_reader_gap; empty = λ f s. gap_no_reader f (spaced_apart f s) };
+      two_by_one = λ f s L t u r q h. doubled f (spaced_apart f s) t u h (r ∙ sym q);
+      gap_or_reader = record { gap = no_reader_gap; empty = λ f s. gap_no_reader f (spaced_apart f s) };
       one_gap = one_gap;
       one_answer = determined;
-      some-answer = answered;
-      moved-times = moved;
+      some_answer = answered;
+      moved_times = moved;
       beginnings = record { some = begins; reader = λ f b s. first_starts f b (spaced_apart f s); leap = λ f s. gap_starts f (spaced_apart f s); rise = starts_rise };
     }
