@@ -16,6 +16,6 @@ pub returns : goal.returns
 returns c =
     record {
       date = c.civil.ensures.0;
-      time = c.time-of-day.ensures.shows;
-      counted = same_pair _ c.args.local (omega (arith, floors, c.civil.ensures.1, c.time-of-day.ensures.second)) c.time-of-day.ensures.nanosecond;
+      time = c.time_of_day.ensures.shows;
+      counted = same_pair _ c.args.local (omega (arith, floors, c.civil.ensures.1, c.time_of_day.ensures.second)) c.time_of_day.ensures.nanosecond;
     }

@@ -6,14 +6,14 @@ use Rattle.zone_table.proofs.first_breach.Goals as goal
 pub loop-zone-init : goal.loop-zone-init
 loop-zone-init c = (sym (start_none c.args.bytes.now), breach_none c.args.bytes.now)
 
-pub zone-breach-requires : goal.zone-breach-requires
-zone-breach-requires c =
+pub zone_breach-requires : goal.zone_breach-requires
+zone_breach-requires c =
     let f = laid_facts c.args.bytes.now c.requires in
     let w = start_within c.args.bytes.now c.loop-zone.zone (zones c.args.bytes.now) (omega arith) in
     record { size = f.size; inside = omega arith }
 
-pub overflow-add-result : goal.overflow-add-result
-overflow-add-result c =
+pub overflow_add-result : goal.overflow_add-result
+overflow_add-result c =
     let f = laid_facts c.args.bytes.now c.requires in
     let w = start_within c.args.bytes.now c.loop-zone.zone (zones c.args.bytes.now) (omega arith) in
     let l = failing_below (keeps_at c.args.bytes.now c.loop-zone.base) c.count-more.result c.in-Some.place (sym c.in-Some.ensures) in
@@ -23,8 +23,8 @@ pub returns-in-Some : goal.returns-in-Some
 returns-in-Some c =
     sym (breach_stops c.args.bytes.now c.loop-zone.zone c.loop-zone.base c.count-more.result c.in-Some.place (zones c.args.bytes.now) c.loop-zone.invariant.0 c.count-more.ensures.0 c.loop-zone.invariant.1 (sym c.in-Some.ensures) (omega arith))
 
-pub overflow-add-base : goal.overflow-add-base
-overflow-add-base c =
+pub overflow_add-base : goal.overflow_add-base
+overflow_add-base c =
     let f = laid_facts c.args.bytes.now c.requires in
     let w = start_within c.args.bytes.now c.loop-zone.zone (zones c.args.bytes.now) (omega arith) in
     omega arith

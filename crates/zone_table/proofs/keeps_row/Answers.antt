@@ -13,4 +13,4 @@ pub returns-then-place-eq1 : goal.returns-then-place-eq1
 returns-then-place-eq1 c = second_is (seconds c.args.bytes.now c.args.base) (offsets c.args.bytes.now c.args.base) c.args.place _ _ _ _ (omega arith) c.row-last.ensures.0 c.row-last.ensures.1 c.row-this.ensures.0 c.row-this.ensures.1 (sym c.if-not-follows.ensures)
 
 pub returns : goal.returns
-returns c = third_is (seconds c.args.bytes.now c.args.base) (offsets c.args.bytes.now c.args.base) c.args.place _ _ _ _ _ _ (omega arith) c.row-older.ensures.1 c.row-last.ensures.0 c.row-last.ensures.1 c.row-this.ensures.0 c.row-this.ensures.1 (sym c.if-not-follows.ensures) c.stands-apart.ensures
+returns c = third_is (seconds c.args.bytes.now c.args.base) (offsets c.args.bytes.now c.args.base) c.args.place _ _ _ _ _ _ (omega arith) c.row-older.ensures.1 c.row-last.ensures.0 c.row-last.ensures.1 c.row-this.ensures.0 c.row-this.ensures.1 (sym c.if-not-follows.ensures) c.stands_apart.ensures

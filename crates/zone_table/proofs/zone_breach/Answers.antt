@@ -6,10 +6,10 @@ use Rattle.zone_table.proofs.zone_breach.Goals as goal
 pub loop-place-init : goal.loop-place-init
 loop-place-init c = failing_none (keeps_at c.args.bytes.now c.args.base)
 
-pub returns-then-not-keeps-row : goal.returns-then-not-keeps-row
-returns-then-not-keeps-row c =
-    sym (failing_stops (keeps_at c.args.bytes.now c.args.base) c.loop-place.place c.args.rows c.loop-place.invariant (sym c.if-not-keeps-row.ensures) (omega arith))
+pub returns-then-not-keeps_row : goal.returns-then-not-keeps_row
+returns-then-not-keeps_row c =
+    sym (failing_stops (keeps_at c.args.bytes.now c.args.base) c.loop-place.place c.args.rows c.loop-place.invariant (sym c.if-not-keeps_row.ensures) (omega arith))
 
 pub loop-place-preserved : goal.loop-place-preserved
 loop-place-preserved c =
-    failing_more (keeps_at c.args.bytes.now c.args.base) c.loop-place.place c.loop-place.invariant (sym c.if-not-keeps-row.ensures)
+    failing_more (keeps_at c.args.bytes.now c.args.base) c.loop-place.place c.loop-place.invariant (sym c.if-not-keeps_row.ensures)

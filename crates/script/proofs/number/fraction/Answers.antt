@@ -5,15 +5,15 @@ use Rattle.script.proofs.number.fraction.Goals as goal
 pub returns-in-err-value : goal.returns-in-err-value
 returns-in-err-value c = c.from-residual.ensures ∙ fraction_none c.args.text.now c.if-text-gt9.false (sym c.natural.ensures ∙ c.in-err-value.was)
 
-pub overflow-mul-result : goal.overflow-mul-result
-overflow-mul-result c =
+pub overflow_mul-result : goal.overflow_mul-result
+overflow_mul-result c =
     let e : c.pow-unit.result ≡ 10 ^ (9 - length c.args.text.now) = c.pow-unit.ensures in
     let f = (fraction_some c.args.text.now c.in-ok-value.value c.if-text-gt9.false (sym c.natural.ensures ∙ c.in-ok-value.was)).0 in
     let h : c.in-ok-value.value * c.pow-unit.result < 1000000000 = subst (λ k. c.in-ok-value.value * k < 1000000000) (sym e) f in
     omega arith
 
-pub overflow-cast-result : goal.overflow-cast-result
-overflow-cast-result c =
+pub overflow_cast-result : goal.overflow_cast-result
+overflow_cast-result c =
     let e : c.pow-unit.result ≡ 10 ^ (9 - length c.args.text.now) = c.pow-unit.ensures in
     let f = (fraction_some c.args.text.now c.in-ok-value.value c.if-text-gt9.false (sym c.natural.ensures ∙ c.in-ok-value.was)).0 in
     let h : c.in-ok-value.value * c.pow-unit.result < 1000000000 = subst (λ k. c.in-ok-value.value * k < 1000000000) (sym e) f in

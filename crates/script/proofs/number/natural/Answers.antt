@@ -4,13 +4,13 @@ use Rattle.script.proofs.number.natural.Goals as goal
 
 pub returns-in-err-value : goal.returns-in-err-value
 returns-in-err-value c =
-    c.from-residual.ensures ∙ sym (stops c.args.text.now c.loop-byte.byte-index c.loop-byte.value c.loop-byte-test.true c.loop-byte.invariant.0 c.loop-byte.invariant.1 (sym c.with-digit.ensures ∙ c.in-err-value.was))
+    c.from-residual.ensures ∙ sym (stops c.args.text.now c.loop-byte.byte-index c.loop-byte.value c.loop-byte-test.true c.loop-byte.invariant.0 c.loop-byte.invariant.1 (sym c.with_digit.ensures ∙ c.in-err-value.was))
 
 pub loop-byte-preserved : goal.loop-byte-preserved
 loop-byte-preserved c =
-    goes c.args.text.now c.loop-byte.byte-index c.loop-byte.value c.in-ok-value.value c.loop-byte-test.true c.loop-byte.invariant.0 c.loop-byte.invariant.1 (sym c.with-digit.ensures ∙ c.in-ok-value.was)
+    goes c.args.text.now c.loop-byte.byte-index c.loop-byte.value c.in-ok-value.value c.loop-byte-test.true c.loop-byte.invariant.0 c.loop-byte.invariant.1 (sym c.with_digit.ensures ∙ c.in-ok-value.was)
 
 pub returns : goal.returns
 returns c =
-    let n : length c.args.text.now ≢ 0 = false-eqb (length c.args.text.now) 0 c.if-is-empty.ensures in
+    let n : length c.args.text.now ≢ 0 = false-eqb (length c.args.text.now) 0 c.if-is_empty.ensures in
     ends c.args.text.now c.loop-byte.byte-index c.loop-byte.value (omega arith) c.loop-byte-test.false c.loop-byte.invariant.0 c.loop-byte.invariant.1 c.loop-byte.invariant.2

@@ -2,8 +2,8 @@ use Rattle.std.proofs.Common.{◌≡◌, ◌<◌, sym, ◌∙◌, arith}
 use Rattle.script.proofs.Digits.{short_none, short_some}
 use Rattle.script.proofs.number.short.Goals as goal
 
-pub overflow-cast-result : goal.overflow-cast-result
-overflow-cast-result c =
+pub overflow_cast-result : goal.overflow_cast-result
+overflow_cast-result c =
     let h : c.in-ok-value.value < 100 = (short_some c.args.text.now c.in-ok-value.value c.if-text-gt2.false (sym c.natural.ensures ∙ c.in-ok-value.was)).0 in
     omega arith
 

@@ -9,5 +9,5 @@ pub returns : goal.returns
 returns g c =
     let m = g.P.Provider.means c.args.provider.now in
     let Right : Result Arrival ZonedFault → Type 0 = λ r. IfOk r (λ a. OffsetIs m a.zone a.instant.seconds a.offset) in
-    let e = c.checked-arrival.ensures.answer in
-    record { answer = e; ranged = c.checked-arrival.ensures.ranged; right = subst Right (sym e) (arrived_right m c.args.request) }
+    let e = c.checked_arrival.ensures.answer in
+    record { answer = e; ranged = c.checked_arrival.ensures.ranged; right = subst Right (sym e) (arrived_right m c.args.request) }

@@ -8,11 +8,11 @@ use Rattle.table_end.proofs.Asked.{answered}
 use Rattle.table_end.specs.Lawful.{some_row, rows_inside, kept_at}
 use Rattle.table_end.proofs.ProofedTableProvider.candidates.Goals as goal
 
-pub overflow-sub-last : goal.overflow-sub-last
-overflow-sub-last c = let s = some_row c.args.self.now.bytes.now c.args.self.now.ok c.args.zone (omega arith) in omega arith
+pub overflow_sub-last : goal.overflow_sub-last
+overflow_sub-last c = let s = some_row c.args.self.now.bytes.now c.args.self.now.ok c.args.zone (omega arith) in omega arith
 
-pub candidates-held-requires : goal.candidates-held-requires
-candidates-held-requires c =
+pub candidates_held-requires : goal.candidates_held-requires
+candidates_held-requires c =
     let s = some_row c.args.self.now.bytes.now c.args.self.now.ok c.args.zone (omega arith) in
     let w = rows_inside c.args.self.now.bytes.now c.args.self.now.ok c.args.zone (omega arith) in
     let f = sound_laid c.args.self.now.bytes.now c.args.self.now.ok in
@@ -20,5 +20,5 @@ candidates-held-requires c =
 
 pub returns : goal.returns
 returns c =
-    let P : ℤ → Type 0 = λ z. Found (held (seconds c.args.self.now.bytes.now c.base-from.result) (offsets c.args.self.now.bytes.now c.base-from.result) (c.count-last.result - 1)) z c.candidates-held.result in
-    answered c.args.self.now.bytes.now c.args.zone c.args.local c.base-from.result c.count-last.result c.candidates-held.result (omega arith) (omega (arith, ints)) (omega (arith, ints)) c.base-from.ensures c.count-last.ensures.0 (subst P (to_z-of_z w64 c.args.local c.ranges.local) c.candidates-held.ensures)
+    let P : ℤ → Type 0 = λ z. Found (held (seconds c.args.self.now.bytes.now c.base-from.result) (offsets c.args.self.now.bytes.now c.base-from.result) (c.count-last.result - 1)) z c.candidates_held.result in
+    answered c.args.self.now.bytes.now c.args.zone c.args.local c.base-from.result c.count-last.result c.candidates_held.result (omega arith) (omega (arith, ints)) (omega (arith, ints)) c.base-from.ensures c.count-last.ensures.0 (subst P (to_z-of_z w64 c.args.local c.ranges.local) c.candidates_held.ensures)

@@ -2,7 +2,7 @@ use Rattle.std.proofs.Common.{◌-◌, None, refl}
 use Rattle.sheet.proofs.Ranges.{put_ranged}
 use Rattle.sheet.proofs.book.Sheet.clear.Goals as goal
 
-pub invariant-of-self : goal.invariant-of-self
-invariant-of-self g c =
+pub invariant_of-self : goal.invariant_of-self
+invariant_of-self g c =
     let s = c.args.self.now in
     (rw c.put.ensures (put_ranged s.berths.rows (c.args.berth - 1) None refl s.ranged), tt)
