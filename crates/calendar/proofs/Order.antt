@@ -3,7 +3,9 @@ use Rattle.std.proofs.Common.{◌≡◌, ℕ, zero, suc, ◌+◌, ◌-◌, ◌*�
 use borrow.Author.Differences.{ints}
 use Rattle.std.proofs.lemmas.Int.{by_lt_z}
 use Rattle.std.proofs.lemmas.Bool.{cases_lt, cases_order}
-use Rattle.std.specs.Ordering.{MatchOrdering}
+use Rattle.std.specs.Ordering.{MatchOrdering, ordering_then, int_cmp, nat_cmp}
+use Rattle.std.specs.Cmp.{int_ranks, ranks}
+use Rattle.std.proofs.lemmas.Cmp.{ranked as nat_ranked}
 use Rattle.calendar.specs.declared.IsoDate.{IsoDate}
 use Rattle.calendar.specs.Gregorian.{leap, year_length, month_length, months_before, year_start, epoch_days, Valid, Earlier, Real, day_of}
 use Rattle.calendar.proofs.Years.{start_next}
@@ -109,6 +111,20 @@ same_date a b p q r =
     let g : ℕ → IsoDate = λ m. record { year = b.year; month = m; day = a.day } in
     let h : ℕ → IsoDate = λ d. record { year = b.year; month = b.month; day = d } in
     ap f p ∙ ap g q ∙ ap h r
+
+-- one field decides, or leaves the answer to the next
+chain : (P Q R : Type 0) (p o k : Ordering) → MatchOrdering p P Q R → o ≡ ordering_then p k → (P × (o ≡ Less)) ⊎ ((R × (o ≡ Greater)) ⊎ (Q × (o ≡ k)))
+chain P Q R Less o k h e = inl (h, e)
+chain P Q R Equal o k h e = inr (inr (h, e))
+chain P Q R Greater o k h e = inr (inl (h, e))
+
+-- which field decides the order of the fields
+pub by_fields : (y z : ℤ) (m n d e : ℕ) (o : Ordering) → o ≡ ordering_then (int_cmp y z) (ordering_then (nat_cmp m n) (nat_cmp d e))
+    → ((y <ℤ z) × (o ≡ Less)) ⊎ (((z <ℤ y) × (o ≡ Greater)) ⊎ ((y ≡ z) × (((m < n) × (o ≡ Less)) ⊎ (((n < m) × (o ≡ Greater)) ⊎ ((m ≡ n) × MatchOrdering o (d < e) (d ≡ e) (e < d))))))
+by_fields y z m n d e o h = ⊎_elim inl (λ r. inr (⊎_elim inl (λ s. inr (s.0, months s.1)) r)) (chain (y <ℤ z) (y ≡ z) (z <ℤ y) (int_cmp y z) o (ordering_then (nat_cmp m n) (nat_cmp d e)) (int_ranks y z) h)
+  where
+    months : o ≡ ordering_then (nat_cmp m n) (nat_cmp d e) → ((m < n) × (o ≡ Less)) ⊎ (((n < m) × (o ≡ Greater)) ⊎ ((m ≡ n) × MatchOrdering o (d < e) (d ≡ e) (e < d)))
+    months k = ⊎_elim inl (λ r. inr (⊎_elim inl (λ s. inr (s.0, nat_ranked d e o s.1)) r)) (chain (m < n) (m ≡ n) (n < m) (nat_cmp m n) o (nat_cmp d e) (ranks m n) k)
 
 -- what the fields' order says of the days
 pub ranked : (a b : IsoDate) (o : Ordering) → Real a → Real b

@@ -32,4 +32,4 @@ overflow_add-base c =
 pub loop-zone-preserved : goal.loop-zone-preserved
 loop-zone-preserved c =
     let e = start_more c.args.bytes.now c.loop-zone.zone in
-    (omega arith, breach_more c.args.bytes.now c.loop-zone.zone c.loop-zone.base c.count-more.result c.loop-zone.invariant.0 c.count-more.ensures.0 c.loop-zone.invariant.1 (sym c.in-default.ensures))
+    (omega arith, breach_more c.args.bytes.now c.loop-zone.zone c.loop-zone.base c.count-more.result c.loop-zone.invariant.0 c.count-more.ensures.0 c.loop-zone.invariant.1 (sym c.in_default.ensures))
