@@ -20,7 +20,7 @@ use zoned::{EpochNanosecondsAndOffset, Request, ZonedFault};
 
 // The zone is known to the provider, or its fixed minutes are less than a day.
 fn check_zone<P: Provider>(provider: &P, zone: TimeZone) -> Result<(), ZonedFault>
-    ensures { result ≡ zone_known (means provider.now) zone }
+    ensures { result ≡ zone_known (P.means provider.now) zone }
 {
     if let TimeZone::Fixed(minutes) = zone {
         if minutes < -1439 || minutes > 1439 {
@@ -82,7 +82,7 @@ fn local_at(date: IsoDate, time: Option<IsoTime>) -> Timespec
 
 // The entry checks of a set, in their order.
 fn check_entry<P: Provider>(provider: &P, request: Request) -> Result<(), ZonedFault>
-    ensures answer { result ≡ entry (means provider.now) request }
+    ensures answer { result ≡ entry (P.means provider.now) request }
     ensures sound { OnOk result (Sound request) }
 {
     check_zone(provider, request.zone)?;
@@ -118,7 +118,7 @@ fn try_new_with_cached_offset(
 
 // The arrival that a request brings about, once the entry checks pass.
 fn checked_arrival<P: Provider>(provider: &P, request: Request) -> Result<Arrival, ZonedFault>
-    ensures answer { result ≡ arrived (means provider.now) request }
+    ensures answer { result ≡ arrived (P.means provider.now) request }
     ensures ranged { IfOk result (λ a. valid_epoch a.instant ≡ true) }
 {
     check_entry(provider, request)?;
@@ -128,9 +128,9 @@ fn checked_arrival<P: Provider>(provider: &P, request: Request) -> Result<Arriva
 
 // The arrival that a request brings about: in range, and with its zone's own offset.
 pub(crate) fn arrive<P: Provider>(provider: &P, request: Request) -> Result<Arrival, ZonedFault>
-    ensures answer { result ≡ arrived (means provider.now) request }
+    ensures answer { result ≡ arrived (P.means provider.now) request }
     ensures ranged { IfOk result (λ a. valid_epoch a.instant ≡ true) }
-    ensures right { IfOk result (λ a. OffsetIs (means provider.now) a.zone a.instant.seconds a.offset) }
+    ensures right { IfOk result (λ a. OffsetIs (P.means provider.now) a.zone a.instant.seconds a.offset) }
 {
     checked_arrival(provider, request)
 }
@@ -141,9 +141,9 @@ pub(crate) fn arrive_at<P: Provider>(
     berth: u8,
     request: Request,
 ) -> Result<Arrival, SheetFault>
-    ensures answer { result ≡ (if is_berth berth then lifted (arrived (means provider.now) request) else Err BerthNumber) }
+    ensures answer { result ≡ (if is_berth berth then lifted (arrived (P.means provider.now) request) else Err BerthNumber) }
     ensures ranged { IfOk result (λ a. (valid_epoch a.instant ≡ true) × (is_berth berth ≡ true)) }
-    ensures right { IfOk result (λ a. OffsetIs (means provider.now) a.zone a.instant.seconds a.offset) }
+    ensures right { IfOk result (λ a. OffsetIs (P.means provider.now) a.zone a.instant.seconds a.offset) }
 {
     if !is_berth(berth) {
         return Err(SheetFault::BerthNumber);

@@ -55,9 +55,9 @@ impl<P: Provider> Sheet<P> {
 
     // Puts the arrival that a request brings about into the berth.
     pub fn set(&mut self, berth: u8, request: Request) -> Result<Arrival, Refusal>
-        ensures answer { result ≡ set_answer (means self.old.provider) berth request }
+        ensures answer { result ≡ set_answer (P.means self.old.provider) berth request }
         ensures after { self.new.berths.rows ≡ stored self.old.berths.rows berth result }
-        ensures right { IfOk result (λ a. OffsetIs (means self.old.provider) a.zone a.instant.seconds a.offset) }
+        ensures right { IfOk result (λ a. OffsetIs (P.means self.old.provider) a.zone a.instant.seconds a.offset) }
         ensures keeps { self.new.provider ≡ self.old.provider }
     {
         match arrive_at(&self.provider, berth, request) {

@@ -17,7 +17,7 @@ pub fn get_offset_for<P: Provider>(
     zone: TimeZone,
     instant: Timespec,
 ) -> Result<i32, ZoneFault>
-    ensures { result ≡ offset_in (means provider.now) zone instant.seconds }
+    ensures { result ≡ offset_in (P.means provider.now) zone instant.seconds }
 {
     match zone {
         TimeZone::Fixed(minutes) => Ok(minutes as i32 * 60),
@@ -62,7 +62,7 @@ fn named_candidates<P: Provider>(
     number: u16,
     local: Timespec,
 ) -> Result<Candidates, ZoneFault>
-    ensures { result ≡ carried (candidates_answer (means provider.now number) local.seconds) }
+    ensures { result ≡ carried (candidates_answer (P.means provider.now number) local.seconds) }
 {
     let found = provider.candidates(number, local.seconds)?;
     Ok(found)
@@ -75,7 +75,7 @@ fn candidates_for<P: Provider>(
     local: Timespec,
 ) -> Result<Candidates, ZoneFault>
     requires { unsigned_abs local.seconds ≤ 8640000259200 }
-    ensures { result ≡ candidates_in (means provider.now) zone local.seconds }
+    ensures { result ≡ candidates_in (P.means provider.now) zone local.seconds }
 {
     match zone {
         TimeZone::Fixed(minutes) => Ok(Candidates::One {
@@ -117,7 +117,7 @@ pub fn get_possible_epoch_ns_for<P: Provider>(
     local: Timespec,
 ) -> Result<Candidates, ZoneFault>
     requires { unsigned_abs local.seconds ≤ 8640000259200 }
-    ensures { result ≡ possible (means provider.now) zone local.seconds local.nanos }
+    ensures { result ≡ possible (P.means provider.now) zone local.seconds local.nanos }
 {
     let found = candidates_for(provider, zone, local)?;
     if !all_valid(found, local.nanos) {

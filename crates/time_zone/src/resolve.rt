@@ -14,7 +14,7 @@ fn moved_possible<P: Provider>(
     zone: TimeZone,
     local: Timespec,
 ) -> Result<Candidates, ZoneFault>
-    ensures { result ≡ moved_possible (means provider.now) zone local.seconds local.nanos }
+    ensures { result ≡ moved_possible (P.means provider.now) zone local.seconds local.nanos }
 {
     if !day_within(100_000_001, local) {
         return Err(ZoneFault::Range);
@@ -28,7 +28,7 @@ fn first_moved<P: Provider>(
     zone: TimeZone,
     local: Timespec,
 ) -> Result<Candidate, ZoneFault>
-    ensures { result ≡ first_possible (moved_possible (means provider.now) zone local.seconds local.nanos) }
+    ensures { result ≡ first_possible (moved_possible (P.means provider.now) zone local.seconds local.nanos) }
 {
     match moved_possible(provider, zone, local)? {
         Candidates::Gap { .. } => Err(ZoneFault::Range),
@@ -42,7 +42,7 @@ fn last_moved<P: Provider>(
     zone: TimeZone,
     local: Timespec,
 ) -> Result<Candidate, ZoneFault>
-    ensures { result ≡ last_possible (moved_possible (means provider.now) zone local.seconds local.nanos) }
+    ensures { result ≡ last_possible (moved_possible (P.means provider.now) zone local.seconds local.nanos) }
 {
     match moved_possible(provider, zone, local)? {
         Candidates::Gap { .. } => Err(ZoneFault::Range),
@@ -91,7 +91,7 @@ fn resolve_gap<P: Provider>(
     after: i32,
 ) -> Result<Candidate, ZoneFault>
     requires { unsigned_abs local.seconds ≤ 8640000259200 }
-    ensures { result ≡ of_none (means provider.now) zone local.seconds local.nanos disambiguation (after -ℤ before) }
+    ensures { result ≡ of_none (P.means provider.now) zone local.seconds local.nanos disambiguation (after -ℤ before) }
 {
     match disambiguation {
         Disambiguation::Reject => Err(ZoneFault::Ambiguous),
@@ -110,7 +110,7 @@ pub fn disambiguate_possible_epoch_nanos<P: Provider>(
     possible: Candidates,
 ) -> Result<Candidate, ZoneFault>
     requires { unsigned_abs local.seconds ≤ 8640000259200 }
-    ensures { result ≡ disambiguated (means provider.now) zone local.seconds local.nanos disambiguation possible }
+    ensures { result ≡ disambiguated (P.means provider.now) zone local.seconds local.nanos disambiguation possible }
 {
     match possible {
         Candidates::One { only } => Ok(only),
@@ -133,7 +133,7 @@ pub fn get_epoch_nanoseconds_for<P: Provider>(
     disambiguation: Disambiguation,
 ) -> Result<Candidate, ZoneFault>
     requires { unsigned_abs local.seconds ≤ 8640000259200 }
-    ensures { result ≡ resolved (means provider.now) zone local.seconds local.nanos disambiguation }
+    ensures { result ≡ resolved (P.means provider.now) zone local.seconds local.nanos disambiguation }
 {
     let possible = get_possible_epoch_ns_for(provider, zone, local)?;
     disambiguate_possible_epoch_nanos(provider, zone, local, disambiguation, possible)
@@ -146,7 +146,7 @@ pub fn get_start_of_day<P: Provider>(
     midnight: i64,
 ) -> Result<Candidate, ZoneFault>
     requires { unsigned_abs midnight ≤ 8640000259200 }
-    ensures { result ≡ start_of_day (means provider.now) zone midnight }
+    ensures { result ≡ start_of_day (P.means provider.now) zone midnight }
 {
     let local = Timespec {
         seconds: midnight,

@@ -75,7 +75,7 @@ fn at_instant<P: Provider>(
     zone: TimeZone,
     instant: Timespec,
 ) -> Result<Candidate, ZonedFault>
-    ensures { result ≡ at_instant (means provider.now) zone instant.nanos instant.seconds }
+    ensures { result ≡ at_instant (P.means provider.now) zone instant.nanos instant.seconds }
 {
     if !is_valid_epoch(instant) {
         return Err(ZonedFault::Range);
@@ -95,7 +95,7 @@ fn at_offset<P: Provider>(
     offset: i32,
 ) -> Result<Candidate, ZonedFault>
     requires { unsigned_abs local.seconds ≤ 8640000259200 }
-    ensures { result ≡ exactly (means provider.now) zone local.seconds local.nanos offset }
+    ensures { result ≡ exactly (P.means provider.now) zone local.seconds local.nanos offset }
 {
     at_instant(provider, zone, less_offset(local, offset))
 }
@@ -107,7 +107,7 @@ fn by_wall_clock<P: Provider>(
     local: Timespec,
 ) -> Result<Candidate, ZonedFault>
     requires { unsigned_abs local.seconds ≤ 8640000259200 }
-    ensures { result ≡ raised (resolved (means provider.now) request.zone local.seconds local.nanos request.disambiguation) }
+    ensures { result ≡ raised (resolved (P.means provider.now) request.zone local.seconds local.nanos request.disambiguation) }
 {
     let chosen = get_epoch_nanoseconds_for(provider, request.zone, local, request.disambiguation)?;
     Ok(chosen)
@@ -121,7 +121,7 @@ fn unmatched<P: Provider>(
     possible: Candidates,
 ) -> Result<Candidate, ZonedFault>
     requires { unsigned_abs local.seconds ≤ 8640000259200 }
-    ensures { result ≡ unmatched_of request.policy (raised (disambiguated (means provider.now) request.zone local.seconds local.nanos request.disambiguation possible)) }
+    ensures { result ≡ unmatched_of request.policy (raised (disambiguated (P.means provider.now) request.zone local.seconds local.nanos request.disambiguation possible)) }
 {
     if let OffsetDisambiguation::Reject = request.policy {
         return Err(ZonedFault::NoMatch);
@@ -144,7 +144,7 @@ fn by_offset<P: Provider>(
     given: i32,
 ) -> Result<Candidate, ZonedFault>
     requires { unsigned_abs local.seconds ≤ 8640000259200 }
-    ensures { result ≡ matched (means provider.now) request local.seconds local.nanos given }
+    ensures { result ≡ matched (P.means provider.now) request local.seconds local.nanos given }
 {
     if !is_valid_day_range(local) {
         return Err(ZonedFault::Range);
@@ -183,7 +183,7 @@ fn timed<P: Provider>(
     local: Timespec,
 ) -> Result<Candidate, ZonedFault>
     requires { unsigned_abs local.seconds ≤ 8640000259200 }
-    ensures { result ≡ by_offset request.exact request.offset (means provider.now) request local.seconds local.nanos }
+    ensures { result ≡ by_offset request.exact request.offset (P.means provider.now) request local.seconds local.nanos }
 {
     match (request.exact, request.offset, request.policy) {
         (_, Some(given), OffsetDisambiguation::Prefer | OffsetDisambiguation::Reject) => {
@@ -205,7 +205,7 @@ pub fn interpret_isodatetime_offset<P: Provider>(
     request: Request,
 ) -> Result<EpochNanosecondsAndOffset, ZonedFault>
     requires { Sound request }
-    ensures { result ≡ interpreted (means provider.now) request }
+    ensures { result ≡ interpreted (P.means provider.now) request }
 {
     let Some(time) = request.time else {
         let start = get_start_of_day(provider, request.zone, midnight(request.date))?;

@@ -6,6 +6,6 @@ use Rattle.script.proofs.command.request.Goals as goal
 
 pub returns : goal.returns
 returns c =
-    let ez : zone_word (next_word (option_map (λ x. x.now) c.args.words.now.rest)) ≡ Some c.in-ok-zone.zone = search rules in
-    let ed : date_word (next_word (option_map (λ x. x.now) c.next.new.self.rest)) ≡ Some c.in-ok-date.date = search rules in
-    request_one (option_map (λ x. x.now) c.args.words.now.rest) (option_map (λ x. x.now) c.next.new.self.rest) (option_map (λ x. x.now) c.next-2.new.self.rest) c.in-ok-zone.zone c.in-ok-date.date c.with_options.result ez c.next.ensures.rest ed c.next-2.ensures.rest (options_one c.in-ok-zone.zone c.in-ok-date.date (option_map (λ x. x.now) c.next-2.new.self.rest) c.with_options.result c.with_options.ensures)
+    let ez : zone_word (next_word (option_map (λ x. x.now) c.args.words.now.rest)) ≡ Some c.in_ok-zone.zone = search rules in
+    let ed : date_word (next_word (option_map (λ x. x.now) c.next.new.self.rest)) ≡ Some c.in_ok-date.date = search rules in
+    request_one (option_map (λ x. x.now) c.args.words.now.rest) (option_map (λ x. x.now) c.next.new.self.rest) (option_map (λ x. x.now) c.next-2.new.self.rest) c.in_ok-zone.zone c.in_ok-date.date c.with_options.result ez c.next.ensures.rest ed c.next-2.ensures.rest (options_one c.in_ok-zone.zone c.in_ok-date.date (option_map (λ x. x.now) c.next-2.new.self.rest) c.with_options.result c.with_options.ensures)

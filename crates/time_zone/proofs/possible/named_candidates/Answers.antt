@@ -10,5 +10,5 @@ returns g c =
     let p = c.args.provider.now in
     let z = g.P.Provider.means p c.args.number in
     let f : SFits w64 c.args.local.seconds = search rules in
-    let h = subst (λ t. CandidatesAnswer z t (Ok c.in-ok-found.found)) (to_z-of_z w64 c.args.local.seconds f) c.in-ok-found.ensures in
-    ap carried (one_answer z (g.P.Provider.bounded p c.args.number) (g.P.Provider.spaced p c.args.number) c.args.local.seconds (Ok c.in-ok-found.found) h)
+    let h = subst (λ t. CandidatesAnswer z t (Ok c.in_ok-found.found)) (to_z-of_z w64 c.args.local.seconds f) c.in_ok-found.ensures in
+    ap carried (one_answer z (g.P.Provider.bounded p c.args.number) (g.P.Provider.spaced p c.args.number) c.args.local.seconds (Ok c.in_ok-found.found) h)
