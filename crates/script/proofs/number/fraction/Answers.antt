@@ -3,7 +3,7 @@ use Rattle.script.proofs.Fractions.{fraction_none, fraction_some}
 use Rattle.script.proofs.number.fraction.Goals as goal
 
 pub returns-in_err-value : goal.returns-in_err-value
-returns-in_err-value c = c.from-residual.ensures ∙ fraction_none c.args.text.now c.if-text-gt9.false (sym c.natural.ensures ∙ c.in_err-value.was)
+returns-in_err-value c = c.from_residual.ensures ∙ fraction_none c.args.text.now c.if-text-gt9.false (sym c.natural.ensures ∙ c.in_err-value.was)
 
 pub overflow_mul-result : goal.overflow_mul-result
 overflow_mul-result c =

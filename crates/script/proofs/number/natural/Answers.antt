@@ -4,7 +4,7 @@ use Rattle.script.proofs.number.natural.Goals as goal
 
 pub returns-in_err-value : goal.returns-in_err-value
 returns-in_err-value c =
-    c.from-residual.ensures ∙ sym (stops c.args.text.now c.loop-byte.byte-index c.loop-byte.value c.loop-byte-test.true c.loop-byte.invariant.0 c.loop-byte.invariant.1 (sym c.with_digit.ensures ∙ c.in_err-value.was))
+    c.from_residual.ensures ∙ sym (stops c.args.text.now c.loop-byte.byte-index c.loop-byte.value c.loop-byte-test.true c.loop-byte.invariant.0 c.loop-byte.invariant.1 (sym c.with_digit.ensures ∙ c.in_err-value.was))
 
 pub loop-byte-preserved : goal.loop-byte-preserved
 loop-byte-preserved c =

@@ -8,4 +8,4 @@ overflow_cast-result c =
     omega arith
 
 pub returns-in_err-value : goal.returns-in_err-value
-returns-in_err-value c = c.from-residual.ensures ∙ short_none c.args.text.now c.if-text-gt2.false (sym c.natural.ensures ∙ c.in_err-value.was)
+returns-in_err-value c = c.from_residual.ensures ∙ short_none c.args.text.now c.if-text-gt2.false (sym c.natural.ensures ∙ c.in_err-value.was)
