@@ -2,6 +2,7 @@
 use crate::output::Output;
 use script::bytes::find;
 use std::alloc::{AllocError, Global};
+use std::io;
 use std::io::{BufRead, BufReader, Stdin};
 
 // A longer line has no form.
@@ -30,13 +31,13 @@ fn keep(line: &mut Vec<u8>, bytes: &[u8]) -> Result<(), AllocError> {
 }
 
 impl Input {
-    pub fn new(rt: &HostRuntime, heap: Global) -> Input {
-        Input {
-            reader: BufReader::new(rt.stdin()),
+    pub fn new(rt: &HostRuntime, heap: Global) -> io::Result<Input> {
+        Ok(Input {
+            reader: BufReader::new(heap, rt.stdin())?,
             ended: false,
             line: Vec::new(heap),
             number: 0,
-        }
+        })
     }
 
     pub fn line(&self) -> &[u8] {

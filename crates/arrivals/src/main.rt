@@ -6,6 +6,7 @@ use crate::run::run;
 use crate::session::Session;
 use anyhow::anyhow;
 use std::env;
+use std::process::ExitCode;
 
 mod help;
 mod input;
@@ -34,18 +35,18 @@ fn start(rt: &HostRuntime) -> anyhow::Result<()> {
         rt.println(HELP)?;
         return Ok(());
     }
-    let mut session = Session::new(rt);
+    let mut session = Session::new(rt)?;
     let ran = run(rt, &mut session);
     session.flush(rt)?;
     ran
 }
 
-fn main(rt: HostRuntime) -> anyhow::Result<()> {
+fn main(rt: HostRuntime) -> ExitCode {
     match start(&rt) {
-        Ok(()) => Ok(()),
+        Ok(()) => ExitCode::SUCCESS,
         Err(error) => {
             let _ = eprintln!(rt; "arrivals: {error}");
-            Err(error)
+            ExitCode::FAILURE
         }
     }
 }

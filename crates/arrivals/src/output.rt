@@ -1,10 +1,10 @@
 // The answers, one line to each call, held until they are written out together.
 use anyhow::anyhow;
 use sheet::{Arrival, Layer, Reading, Refusal};
-use std::alloc::Global;
+use std::alloc::{AllocError, Global};
 use std::fmt::Write as WriteText;
+use std::io;
 use std::io::Write;
-use std::{fmt, io};
 use table_end::Counts;
 use time_zone::TimeZone;
 use zone_table::TableFault;
@@ -15,7 +15,7 @@ pub struct Output {
 }
 
 // Text is refused only where no memory is left for it.
-fn written(res: fmt::Result) -> anyhow::Result<()> {
+fn written(res: Result<(), AllocError>) -> anyhow::Result<()> {
     match res {
         Ok(()) => Ok(()),
         Err(_) => Err(anyhow!("no memory is left for the answers")),
@@ -91,7 +91,7 @@ impl Output {
     }
 
     // An arrival, without the end of its line.
-    fn arrival(&mut self, arrival: Arrival) -> fmt::Result {
+    fn arrival(&mut self, arrival: Arrival) -> Result<(), AllocError> {
         match arrival.zone {
             TimeZone::Named(number) => write!(self.text, "granted zone=named:{number}")?,
             TimeZone::Fixed(minutes) => write!(self.text, "granted zone=fixed:{minutes}")?,
@@ -108,7 +108,7 @@ impl Output {
     }
 
     // The year has four digits or more, behind its sign.
-    fn local(&mut self, reading: Reading) -> fmt::Result {
+    fn local(&mut self, reading: Reading) -> Result<(), AllocError> {
         let date = reading.local.date;
         let time = reading.local.time;
         let sign = if date.year < 0 { "-" } else { "" };

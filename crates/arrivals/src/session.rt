@@ -38,12 +38,12 @@ fn give_table(
 }
 
 impl Session {
-    pub fn new(rt: &HostRuntime) -> Session {
-        Session {
-            input: Input::new(rt, rt.alloc()),
+    pub fn new(rt: &HostRuntime) -> anyhow::Result<Session> {
+        Ok(Session {
+            input: Input::new(rt, rt.alloc())?,
             output: Output::new(rt.alloc()),
             table: None,
-        }
+        })
     }
 
     pub fn output(&mut self) -> &mut Output {
