@@ -5,9 +5,14 @@ ghost use Rattle.std.specs.Prelude.{◌≡◌, ℕ, ◌+◌, ◌*◌, ◌/◌, �
 ghost use Rattle.std.specs.Int.Signed.{non_neg};
 ghost use Rattle.rounding.specs.Rounding.{unsigned_of, half_of, applied, rounded_to};
 ghost use Rattle.rounding.specs.Words.{RoundsAsAsked, OneAnswer, NoneNearer};
+ghost use Rattle.rounding.specs.Pairs.{OnePair};
 ghost use Rattle.std.proofs.Common.{rules};
 
 use std::cmp::Ordering;
+
+mod pair;
+
+pub use pair::round_timespec;
 
 #[derive(Clone, Copy)]
 pub enum RoundingMode {
@@ -210,4 +215,5 @@ pub fn laws_hold()
     ensures rounds { RoundsAsAsked }
     ensures single { OneAnswer }
     ensures nearest { NoneNearer }
+    ensures pairs { OnePair }
 {}
