@@ -1,5 +1,5 @@
 -- Instants and local times in nanoseconds, and their limits.
-use Rattle.std.specs.Prelude.{◌≡◌, Bool, true, ◌&&◌, ℕ, ltb, ℤ, pos, negsuc, ◌+ℤ◌, ◌*ℤ◌}
+use Rattle.std.specs.Prelude.{◌≡◌, Bool, true, ◌&&◌, ltb, ℤ, pos, negsuc, ◌+ℤ◌, ◌*ℤ◌}
 use Rattle.std.specs.Int.Signed.{le_z, lt_z}
 use Rattle.calendar.specs.declared.IsoDate.{IsoDate}
 use Rattle.calendar.specs.Gregorian.{day_of, Real}

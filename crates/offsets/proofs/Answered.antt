@@ -1,8 +1,8 @@
 -- Every lawful offset function has an answer to what reads a local time.
-use Rattle.std.proofs.Common.{◌≡◌, ℕ, zero, suc, ◌+◌, ◌⊎◌, ℤ, pos, negsuc, ◌+ℤ◌, ◌-ℤ◌, nat_abs, ◌≤ℤ◌, ◌<ℤ◌, sym, refl, ap, ◌∙◌, subst, inl, inr, ⊎_elim, arith}
+use Rattle.std.proofs.Common.{◌≡◌, ℕ, zero, suc, ◌⊎◌, ℤ, pos, ◌+ℤ◌, ◌-ℤ◌, ◌≤ℤ◌, ◌<ℤ◌, refl, subst, inl, inr, ⊎_elim, arith}
 use Rattle.std.proofs.lemmas.Int.{ints, by_lt_z}
 use Rattle.offsets.specs.Offsets.{Bounded, Spaced, Apart}
-use Rattle.offsets.specs.Readers.{Reads, Leaps, Found}
+use Rattle.offsets.specs.Readers.{Reads, Found}
 use Rattle.offsets.specs.Starts.{Starts}
 use Rattle.offsets.specs.Possible.{at, candidates_at}
 use Rattle.offsets.specs.declared.Candidates.{Candidates}

@@ -7,7 +7,7 @@ use Rattle.offsets.proofs.Sides.{only_gap}
 use Rattle.offsets.proofs.Neighbours.{spaced_apart}
 use Rattle.offsets.specs.Offsets.{Bounded, Spaced}
 use Rattle.offsets.specs.Readers.{Reads, Reading, Found}
-use Rattle.offsets.specs.Possible.{eq_z, seconds, around, reads, possible, at, instants, listed, gapped, first_or, change_over, answer_of, candidates_at}
+use Rattle.offsets.specs.Possible.{seconds, around, reads, possible, at, instants, listed, gapped, first_or, change_over, candidates_at}
 use Rattle.offsets.specs.declared.Candidate.{Candidate}
 use Rattle.offsets.specs.declared.Candidates.{Candidates}
 use Rattle.offsets.specs.declared.Candidates.TheVariants.{Gap, One, Two}

@@ -1,7 +1,7 @@
 -- Going up second by second from a time that reads before L: each instant reads before it, until one reads L, or a change leaps over it.
-use Rattle.std.proofs.Common.{◌≡◌, ℕ, zero, suc, ◌+◌, ◌⊎◌, ℤ, pos, negsuc, ◌+ℤ◌, ◌-ℤ◌, nat_abs, ◌≤ℤ◌, ◌<ℤ◌, sym, refl, ap, ◌∙◌, subst, inl, inr, ⊎_elim, arith}
+use Rattle.std.proofs.Common.{◌≡◌, ℕ, zero, suc, ◌⊎◌, ℤ, pos, negsuc, ◌+ℤ◌, ◌-ℤ◌, nat_abs, ◌≤ℤ◌, ◌<ℤ◌, refl, subst, inl, inr, ⊎_elim, arith}
 use Rattle.std.proofs.lemmas.Int.{ints, by_lt_z}
-use Rattle.offsets.specs.Offsets.{Bounded, Changes, Apart}
+use Rattle.offsets.specs.Offsets.{Bounded, Apart}
 use Rattle.offsets.specs.Readers.{Reads, Leaps}
 use Rattle.offsets.specs.Starts.{Starts}
 use Rattle.offsets.proofs.Sides.{from_on, up_to}

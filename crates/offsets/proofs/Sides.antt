@@ -1,7 +1,7 @@
 -- In a gap every instant before the change reads earlier than the local time, and every one from it on reads later; so a local time has one gap at most.
-use Rattle.std.proofs.Common.{◌≡◌, ℕ, zero, suc, ◌+◌, ◌⊎◌, ℤ, pos, negsuc, ◌+ℤ◌, ◌-ℤ◌, nat_abs, ◌≤ℤ◌, ◌<ℤ◌, sym, refl, ap, ◌∙◌, subst, inl, inr, ⊎_elim, arith}
+use Rattle.std.proofs.Common.{◌≡◌, ℕ, zero, suc, ◌⊎◌, ℤ, pos, negsuc, ◌+ℤ◌, ◌-ℤ◌, nat_abs, ◌≤ℤ◌, ◌<ℤ◌, sym, refl, ap, ◌∙◌, subst, inl, inr, ⊎_elim, arith}
 use Rattle.std.proofs.lemmas.Int.{ints, by_lt_z}
-use Rattle.offsets.specs.Offsets.{Changes, jump, Apart}
+use Rattle.offsets.specs.Offsets.{Changes, Apart}
 
 pub size : (z : ℤ) → (z ≤ℤ pos (nat_abs z)) × ((pos 0 -ℤ z) ≤ℤ pos (nat_abs z))
 size (pos n) = (omega (arith, ints), omega (arith, ints))

@@ -1,5 +1,5 @@
 -- What the two laws of offsets bring about, whatever the offsets.
-use Rattle.std.specs.Prelude.{◌≡◌, ◌⊎◌, ℤ, pos, ◌+ℤ◌, ◌-ℤ◌, ◌≤ℤ◌, ◌<ℤ◌}
+use Rattle.std.specs.Prelude.{◌≡◌, ℤ, pos, ◌+ℤ◌, ◌-ℤ◌, ◌≤ℤ◌, ◌<ℤ◌}
 use Rattle.offsets.specs.Offsets.{Bounded, Changes, Spaced, Apart}
 use Rattle.offsets.specs.Readers.{Reads, Leaps, Found}
 use Rattle.offsets.specs.Possible.{candidates_at}

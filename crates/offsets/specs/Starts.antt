@@ -1,5 +1,5 @@
 -- Where a local time begins.
-use Rattle.std.specs.Prelude.{ℤ, ◌+ℤ◌, ◌≤ℤ◌, ◌<ℤ◌}
+use Rattle.std.specs.Prelude.{ℤ, ◌+ℤ◌, ◌≤ℤ◌}
 
 -- The earliest instant whose reading is M or later.
 pub record Starts (f : ℤ → ℤ) (M s : ℤ) : Type 0 where

@@ -1,5 +1,5 @@
 -- What a provider ensures of the candidates question leaves one answer.
-use Rattle.std.proofs.Common.{◌≡◌, Bool, true, false, cond, ℤ, Ok, Err, Result, sym, refl, ap}
+use Rattle.std.proofs.Common.{◌≡◌, Bool, true, false, cond, ℤ, Ok, Err, Result, ap}
 use Rattle.offsets.specs.Offsets.{Bounded, Spaced}
 use Rattle.offsets.specs.Possible.{candidates_at}
 use Rattle.offsets.specs.declared.Candidates.{Candidates}

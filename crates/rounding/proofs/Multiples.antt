@@ -1,5 +1,5 @@
 -- Multiples of n that are less than n apart are one.
-use Rattle.std.proofs.Common.{◌≡◌, ℕ, zero, suc, ◌+◌, ◌*◌, ◌/◌, ◌%◌, ◌<◌, ◌≤◌, ℤ, pos, negsuc, sym, ap, ◌∙◌, mod-eq_of_lt, add-mul, lt_of_mul-lt-mul_right, one-mul, div-add-mod', arith}
+use Rattle.std.proofs.Common.{◌≡◌, ℕ, suc, ◌+◌, ◌*◌, ◌/◌, ◌%◌, ◌<◌, ◌≤◌, ℤ, pos, negsuc, sym, ap, ◌∙◌, mod-eq_of_lt, add-mul, lt_of_mul-lt-mul_right, one-mul, div-add-mod', arith}
 use Rattle.std.proofs.lemmas.Int.{ints}
 use Rattle.rounding.specs.Words.{Multiple, apart}
 

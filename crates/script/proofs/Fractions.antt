@@ -1,5 +1,5 @@
 -- The digits of a fraction, counted in nanoseconds.
-use Rattle.std.proofs.Common.{◌≡◌, ℕ, zero, suc, ◌+◌, ◌-◌, ◌*◌, ◌^◌, ◌<◌, ◌≤◌, true, cond, leb, List, [], ◌∷◌, length, Some, None, Option, sym, refl, ap, ◌∙◌, subst, zero-le, lt_of_lt_of_le, mul-le-mul_right, mul_assoc, mul-lt-mul_of_pos_right, arith, lit<, pow-add, le-leb}
+use Rattle.std.proofs.Common.{◌≡◌, ℕ, suc, ◌+◌, ◌-◌, ◌*◌, ◌^◌, ◌<◌, ◌≤◌, true, cond, List, [], ◌∷◌, length, Some, None, sym, ap, ◌∙◌, subst, zero-le, lt_of_lt_of_le, mul-le-mul_right, mul_assoc, mul-lt-mul_of_pos_right, arith, lit<, pow-add, le-leb}
 use native.Mathlib.Nat.{pow-succ', pow-le-pow_right}
 use Rattle.script.specs.Numbers.{digit, all_digits, worth_from, decimal, below, scaled, fraction_of}
 use Rattle.script.proofs.Digits.{both, one_of, digit_below, none_below, some_below}

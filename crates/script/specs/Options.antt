@@ -8,7 +8,7 @@ use Rattle.zoned.specs.declared.OffsetDisambiguation.TheVariants.{Reject}
 use Rattle.script.specs.Cuts.{place}
 use Rattle.script.specs.Dates.{time_of}
 use Rattle.script.specs.Forms.{policy_of, disambiguation_of}
-use Rattle.script.specs.Numbers.{number, signed_below, unsigned_below}
+use Rattle.script.specs.Numbers.{number, signed_below}
 
 -- Only a time has a colon.
 abbrev pub is_time : Option (List ℕ) → Bool

@@ -1,5 +1,5 @@
 -- The words of a line, taken one by one: what is left of the line, or None behind its last word.
-use Rattle.std.specs.Prelude.{ℕ, Bool, true, false, cond, List, is_some, Some, None, Option}
+use Rattle.std.specs.Prelude.{ℕ, Bool, false, cond, List, Some, None, Option}
 use Rattle.script.specs.Cuts.{alike, behind, halves}
 
 abbrev pub front : Option (List ℕ × List ℕ) → List ℕ → List ℕ

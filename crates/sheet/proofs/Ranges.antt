@@ -1,5 +1,5 @@
 -- Every filled berth stays in range.
-use Rattle.std.proofs.Common.{◌≡◌, ℕ, zero, suc, Bool, true, false, ◌&&◌, List, [], ◌∷◌, get_or, set, Some, None, Option, refl}
+use Rattle.std.proofs.Common.{◌≡◌, ℕ, zero, suc, Bool, true, false, ◌&&◌, [], ◌∷◌, get_or, set, None, Option, refl}
 use Rattle.sheet.specs.Calls.{Berths, in_range, all_in_range}
 use Rattle.sheet.specs.declared.Arrival.{Arrival}
 

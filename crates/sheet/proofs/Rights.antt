@@ -1,5 +1,5 @@
 -- The arrival of a granted set has its zone's own offset.
-use Rattle.std.proofs.Common.{◌≡◌, Bool, true, false, cond, IfOk, Ok, Err, Result, sym, subst}
+use Rattle.std.proofs.Common.{Bool, true, false, cond, IfOk, Ok, Err, Result}
 use Rattle.clock.specs.Instants.{valid_epoch}
 use Rattle.provider.specs.Meaning.{Meaning}
 use Rattle.zoned.specs.Interpret.{interpreted}
@@ -11,7 +11,7 @@ use Rattle.time_zone.specs.declared.TimeZone.{TimeZone}
 use Rattle.zoned.specs.declared.ZonedFault.{ZonedFault}
 use Rattle.zoned.specs.declared.ZonedFault.TheVariants.{Range}
 use Rattle.zoned.proofs.Kept.{interpreted_right}
-use Rattle.sheet.specs.Calls.{entry, made_at, made_from, after_entry, arrived}
+use Rattle.sheet.specs.Calls.{entry, made_from, after_entry, arrived}
 use Rattle.sheet.specs.declared.Arrival.{Arrival}
 
 module _ (m : Meaning) where

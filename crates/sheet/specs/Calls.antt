@@ -18,7 +18,6 @@ use Rattle.sheet.specs.Refusals.{at_berth, lifted}
 use Rattle.sheet.specs.declared.Arrival.{Arrival}
 use Rattle.sheet.specs.declared.Reading.{Reading}
 use Rattle.sheet.specs.declared.Refusal.{Refusal}
-use Rattle.sheet.specs.declared.SheetFault.{SheetFault}
 use Rattle.sheet.specs.declared.SheetFault.TheVariants.{BerthNumber, Empty}
 
 -- The berths in order, the first of them berth 1.

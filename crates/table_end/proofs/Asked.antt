@@ -1,6 +1,5 @@
 -- From what the rows of a zone answer to what the table answers.
-use Rattle.std.proofs.Common.{◌≡◌, ℕ, ◌-◌, ◌<◌, Bool, true, cond, ◌&&◌, List, ℤ, pos, negsuc, ◌≤ℤ◌, Ok, Err, Result, sym, subst, arith, lt-ltb}
-use lib.Signed.{le_z}
+use Rattle.std.proofs.Common.{◌≡◌, ℕ, ◌-◌, ◌<◌, Bool, true, cond, List, ℤ, pos, negsuc, ◌≤ℤ◌, Ok, Err, Result, sym, subst, arith, lt-ltb}
 use Rattle.std.proofs.lemmas.Int.{ints}
 use Rattle.offsets.specs.Readers.{Found}
 use Rattle.offsets.specs.declared.Candidates.{Candidates}

@@ -1,13 +1,13 @@
 -- A table that the check takes keeps both laws. It stands beside the statements, since the laws are ghost members of the trait.
-use Rattle.std.specs.Prelude.{◌≡◌, ℕ, zero, suc, ◌+◌, ◌-◌, ◌*◌, ◌<◌, ◌≤◌, Bool, true, false, cond, ◌&&◌, List, ℤ, pos, negsuc, nat_lt, refl}
-use Rattle.std.proofs.Common.{sym, ap, subst, ◌∙◌, arith, ltb-true}
+use Rattle.std.specs.Prelude.{◌≡◌, ℕ, ◌+◌, ◌-◌, ◌<◌, ◌≤◌, Bool, true, false, cond, List, ℤ, nat_lt, refl}
+use Rattle.std.proofs.Common.{sym, subst, arith, ltb-true}
 use Rattle.provider.specs.Meaning.{known, unknown, Each}
 use Rattle.offsets.specs.Offsets.{Bounded, Spaced}
 use Rattle.provider.specs.declared.Source.{Source}
-use Rattle.zone_rows.specs.Rows.{held, keeps, Kept}
+use Rattle.zone_rows.specs.Rows.{keeps, Kept}
 use Rattle.zone_rows.proofs.Lawful.{kept_lawful}
 use Rattle.zone_table.specs.Layout.{zones, rows, count, start, seconds, offsets, zone_offset, Sound}
-use Rattle.zone_table.proofs.Steps.{Laid, sound_laid, sound_kept, filled_all, start_within}
+use Rattle.zone_table.proofs.Steps.{sound_laid, sound_kept, filled_all, start_within}
 use Rattle.table_end.specs.Table.{told}
 
 module _ (bs : List ℕ) (sound : Sound bs) (z : ℕ) (known-zone : z < zones bs) where

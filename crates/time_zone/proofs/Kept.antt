@@ -1,5 +1,5 @@
 -- Every instant that is found or chosen comes with its zone's own offset there.
-use Rattle.std.proofs.Common.{◌≡◌, ℕ, Bool, true, false, cond, List, [], ◌∷◌, map, ℤ, pos, ◌+ℤ◌, ◌-ℤ◌, ◌*ℤ◌, Ok, Err, Result, refl}
+use Rattle.std.proofs.Common.{◌≡◌, ℕ, Bool, true, false, cond, List, [], ◌∷◌, map, ℤ, pos, ◌+ℤ◌, ◌-ℤ◌, Ok, Err, Result, refl}
 use Rattle.offsets.specs.Possible.{possible as instants_of, at, answer_of, candidates_at}
 use Rattle.offsets.specs.declared.Candidate.{Candidate}
 use Rattle.offsets.specs.declared.Candidates.{Candidates}
@@ -9,7 +9,7 @@ use Rattle.provider.specs.Answer.{in_span, candidates_answer}
 use Rattle.provider.specs.declared.ProviderFault.TheVariants.{OutsideSpan}
 use Rattle.time_zone.specs.Faults.{carried}
 use Rattle.time_zone.specs.Instants.{day_ranged, day_within, candidates_in, all_valid, ranged, possible, first_of, last_of, moved, of_two, of_none, disambiguated, disambiguated_in, resolved, started, start_of_day}
-use Rattle.time_zone.specs.Right.{KnownOffset, OffsetIs, Right, AllRight, GrantedRight, GrantedAll}
+use Rattle.time_zone.specs.Right.{Right, AllRight, GrantedRight, GrantedAll}
 use Rattle.time_zone.specs.declared.TimeZone.{TimeZone}
 use Rattle.time_zone.specs.declared.TimeZone.TheVariants.{Named, Fixed}
 use Rattle.time_zone.specs.declared.Disambiguation.{Disambiguation}

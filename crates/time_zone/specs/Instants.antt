@@ -1,6 +1,6 @@
 -- The instants that a local time may stand for in a zone, and the one that is chosen: over the meaning of any provider.
 -- A local time is its whole seconds L, counted as if in UTC, and its nanoseconds n, which every instant that reads it shares.
-use Rattle.std.specs.Prelude.{ℕ, Bool, true, cond, ◌&&◌, ℤ, pos, negsuc, ◌+ℤ◌, ◌-ℤ◌, ◌*ℤ◌, Ok, Err, Result, int_le}
+use Rattle.std.specs.Prelude.{ℕ, Bool, true, cond, ◌&&◌, ℤ, pos, ◌+ℤ◌, ◌-ℤ◌, ◌*ℤ◌, Ok, Err, Result, int_le}
 use Rattle.std.specs.Int.{int_div_euclid}
 use Rattle.clock.specs.Instants.{valid_epoch}
 use Rattle.offsets.specs.declared.Candidate.{Candidate}

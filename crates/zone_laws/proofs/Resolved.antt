@@ -1,5 +1,5 @@
 -- From the steps of resolution to what they give.
-use Rattle.std.proofs.Common.{◌≡◌, ℕ, Bool, true, false, cond, ◌⊎◌, ℤ, pos, ◌+ℤ◌, ◌-ℤ◌, ◌*ℤ◌, ◌≤ℤ◌, ◌<ℤ◌, Ok, Err, Result, sym, refl, ap, ◌∙◌, subst, inl, inr, ⊎_elim, arith}
+use Rattle.std.proofs.Common.{◌≡◌, ℕ, Bool, true, false, cond, ℤ, pos, ◌+ℤ◌, ◌-ℤ◌, ◌*ℤ◌, ◌≤ℤ◌, Ok, Err, Result, refl, subst, inl, inr, ⊎_elim, arith}
 use Rattle.std.proofs.lemmas.Int.{ints}
 use Rattle.offsets.specs.declared.Candidate.{Candidate}
 use Rattle.offsets.specs.declared.Candidates.{Candidates}
@@ -16,15 +16,15 @@ use Rattle.provider.specs.Meaning.{Zone, unknown, known, Meaning, Each}
 use Rattle.provider.specs.Answer.{candidates_answer, in_span}
 use Rattle.time_zone.specs.Faults.{carried}
 use Rattle.time_zone.specs.declared.ZoneFault.{ZoneFault}
-use Rattle.time_zone.specs.declared.ZoneFault.TheVariants.{Range, Ambiguous}
+use Rattle.time_zone.specs.declared.ZoneFault.TheVariants.{Range}
 use Rattle.provider.specs.declared.ProviderFault.TheVariants.{OutsideSpan}
 use Rattle.provider.specs.declared.Source.{Source}
 use Rattle.time_zone.specs.declared.TimeZone.{TimeZone}
 use Rattle.time_zone.specs.declared.TimeZone.TheVariants.{Named, Fixed}
 use Rattle.time_zone.specs.declared.Disambiguation.{Disambiguation}
 use Rattle.time_zone.specs.declared.Disambiguation.TheVariants.{Compatible, Earlier, Later, Reject}
-use Rattle.time_zone.specs.Instants.{day_ranged, day_within, all_valid, ranged, possible, first_of, last_of, moved, of_two, of_none, disambiguated, disambiguated_in, resolved, started, start_of_day}
-use Rattle.zone_laws.specs.Resolution.{Lawful, KnownBy, InZone, FirstReader, LastReader, OnlyReader, ByBefore, ByAfter, Gives}
+use Rattle.time_zone.specs.Instants.{day_ranged, day_within, all_valid, ranged, possible, first_of, last_of, moved, of_two, of_none, disambiguated_in, resolved, started, start_of_day}
+use Rattle.zone_laws.specs.Resolution.{Lawful, KnownBy, InZone, FirstReader, LastReader, ByBefore, ByAfter, Gives}
 
 -- ---- what is granted as possible is what reads the local time
 

@@ -1,10 +1,9 @@
 -- Rows that keep the rules mean offsets that are bounded and spaced.
-use Rattle.std.proofs.Common.{◌≡◌, ℕ, zero, suc, ◌+◌, ◌<◌, ◌≤◌, Bool, true, false, cond, ◌⊎◌, ℤ, pos, negsuc, ◌+ℤ◌, ◌-ℤ◌, nat_abs, ◌≤ℤ◌, ◌<ℤ◌, sym, refl, ap, ◌∙◌, subst, inl, inr, ⊎_elim, arith}
-use lib.Signed.{le_z, lt_z}
+use Rattle.std.proofs.Common.{◌≡◌, ℕ, zero, suc, ◌+◌, ◌<◌, ◌≤◌, true, ◌⊎◌, ℤ, pos, negsuc, ◌+ℤ◌, ◌-ℤ◌, nat_abs, ◌≤ℤ◌, ◌<ℤ◌, sym, refl, ◌∙◌, inl, inr, ⊎_elim, arith}
 use Rattle.std.proofs.lemmas.Int.{ints, by_lt_z}
 use Rattle.offsets.specs.Offsets.{Changes, jump, Bounded, Spaced, Apart}
 use Rattle.offsets.proofs.Neighbours.{apart_spaced}
-use Rattle.zone_rows.specs.Rows.{held, keeps, Kept, first_row, later_row, apart, in_day}
+use Rattle.zone_rows.specs.Rows.{held, keeps, Kept}
 
 -- what the rules say of the rows 0 to k
 pub record Ruled (sec off : ℕ → ℤ) (k : ℕ) : Type 0 where

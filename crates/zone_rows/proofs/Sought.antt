@@ -1,6 +1,5 @@
 -- The place of a second among the rows, and what is held there.
 use Rattle.std.proofs.Common.{◌≡◌, ℕ, suc, ◌≤◌, Bool, true, false, eqb, ◌⊎◌, ℤ, ◌≤ℤ◌, ◌<ℤ◌, refl, ◌∙◌, subst, inl, inr, ⊎_elim, arith}
-use Rattle.std.proofs.lemmas.Int.{ints}
 use Rattle.std.proofs.lemmas.Bool.Decides.{nat_tests}
 use Rattle.zone_rows.specs.Rows.{held}
 use Rattle.zone_rows.proofs.Lawful.{Ruled, held_last}

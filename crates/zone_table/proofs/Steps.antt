@@ -1,8 +1,8 @@
 -- One step of each definition, in the numbers of the code, and what a table that the check takes keeps.
-use Rattle.std.proofs.Common.{◌≡◌, ℕ, zero, suc, ◌+◌, ◌-◌, ◌*◌, ◌<◌, ◌≤◌, Bool, true, false, cond, ◌&&◌, eqb, leb, ◌⊎◌, List, length, ℤ, Some, None, Ok, Err, Option, Result, sym, refl, ap, ◌∙◌, subst, inl, inr, ⊎_elim, add-one, arith}
+use Rattle.std.proofs.Common.{◌≡◌, ℕ, zero, suc, ◌+◌, ◌-◌, ◌*◌, ◌<◌, ◌≤◌, Bool, true, false, cond, ◌&&◌, eqb, leb, ◌⊎◌, List, length, ℤ, Some, None, Err, Option, sym, refl, ap, ◌∙◌, subst, inl, inr, ⊎_elim, add-one, arith}
 use Rattle.std.proofs.lemmas.Bool.Decides.{nat_tests}
 use Rattle.zone_rows.specs.Rows.{keeps, Kept, first_row, later_row, apart}
-use Rattle.zone_table.specs.Layout.{zones, rows, count, start, seconds, offsets, filled, laid, first_of, from_row, failing, keeps_at, breach, breach_answer, check_answer, taken, Sound}
+use Rattle.zone_table.specs.Layout.{zones, rows, count, start, seconds, offsets, filled, laid, first_of, from_row, failing, keeps_at, breach, breach_answer, taken, Sound}
 use Rattle.zone_table.specs.declared.TableFault.TheVariants.{Sizes}
 
 -- ---- a row's rules

@@ -1,7 +1,7 @@
 -- What the check answers, in the subject's words.
-use Rattle.std.proofs.Common.{◌≡◌, ℕ, zero, suc, ◌+◌, ◌-◌, ◌<◌, ◌≤◌, Bool, true, false, cond, ◌⊎◌, List, Some, None, Ok, Err, Option, sym, refl, ap, ◌∙◌, subst, inl, inr, ⊎_elim, arith}
+use Rattle.std.proofs.Common.{◌≡◌, ℕ, zero, suc, ◌+◌, ◌<◌, Bool, true, false, cond, List, Some, None, Err, Option, sym, refl, ap, ◌∙◌, subst, ⊎_elim, arith}
 use Rattle.zone_table.specs.Layout.{zones, count, start, laid, first_of, from_row, failing, keeps_at, breach, breach_answer, check_answer, First, Weighed}
-use Rattle.zone_table.specs.declared.TableFault.TheVariants.{Sizes, BrokenRow}
+use Rattle.zone_table.specs.declared.TableFault.TheVariants.{Sizes}
 use Rattle.zone_table.proofs.Steps.{failing_all, breach_all, start_within, last_or}
 
 record Failed (p : ℕ → Bool) (n i : ℕ) : Type 0 where

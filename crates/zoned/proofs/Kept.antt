@@ -10,7 +10,7 @@ use Rattle.provider.specs.Answer.{in_span, offset_answer}
 use Rattle.provider.specs.declared.ProviderFault.TheVariants.{OutsideSpan}
 use Rattle.time_zone.specs.Faults.{carried}
 use Rattle.time_zone.specs.Instants.{offset_in, day_ranged, valid_at, possible, disambiguated, resolved, start_of_day}
-use Rattle.time_zone.specs.Right.{OffsetIs, Right, AllRight, GrantedRight, GrantedAll}
+use Rattle.time_zone.specs.Right.{AllRight, GrantedRight, GrantedAll}
 use Rattle.time_zone.specs.declared.TimeZone.{TimeZone}
 use Rattle.time_zone.specs.declared.TimeZone.TheVariants.{Named, Fixed}
 use Rattle.time_zone.specs.declared.ZoneFault.{ZoneFault}

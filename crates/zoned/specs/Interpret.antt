@@ -16,7 +16,6 @@ use Rattle.clock.specs.Instants.{as_utc, within_limits}
 use Rattle.zoned.specs.Faults.{raised}
 use Rattle.time_zone.specs.Instants.{offset_in, day_ranged, valid_at, possible, disambiguated, resolved, start_of_day}
 use Rattle.time_zone.specs.declared.TimeZone.{TimeZone}
-use Rattle.time_zone.specs.declared.Disambiguation.{Disambiguation}
 use Rattle.zoned.specs.declared.OffsetDisambiguation.{OffsetDisambiguation}
 use Rattle.zoned.specs.declared.OffsetDisambiguation.TheVariants.{Use, Prefer, Ignore, Reject}
 use Rattle.zoned.specs.declared.EpochNanosecondsAndOffset.{EpochNanosecondsAndOffset}

@@ -1,6 +1,5 @@
-use Rattle.std.proofs.Common.{◌≡◌, ℤ, pos, ◌+ℤ◌, ◌-ℤ◌, ◌≤ℤ◌, ◌<ℤ◌, sym, ◌∙◌, subst, arith}
+use Rattle.std.proofs.Common.{sym, ◌∙◌, arith}
 use Rattle.std.proofs.lemmas.Int.{ints}
-use Rattle.offsets.specs.Offsets.{Spaced}
 use Rattle.offsets.specs.Laws.{OneGap, MovedTimes}
 use Rattle.offsets.proofs.Neighbours.{spaced_apart}
 use Rattle.offsets.proofs.Sides.{only_gap}

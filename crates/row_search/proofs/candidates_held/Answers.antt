@@ -1,6 +1,6 @@
-use Rattle.std.proofs.Common.{◌+◌, ◌-◌, sym, ◌∙◌, arith, w32, w64, SFits, to_z, of_z, rules}
+use Rattle.std.proofs.Common.{◌+◌, ◌-◌, sym, arith, w32, w64, SFits, to_z, of_z, rules}
 use Rattle.std.proofs.lemmas.Int.{ints, to_z-of_z}
-use Rattle.zone_rows.proofs.Lawful.{Ruled, ruled}
+use Rattle.zone_rows.proofs.Lawful.{ruled}
 use Rattle.zone_rows.proofs.Walked.{down_here, one_here, gap_here, two_here, one_zero}
 use Rattle.offsets.specs.declared.Candidates.TheVariants.{Gap, One, Two}
 use Rattle.zone_table.specs.Layout.{seconds, offsets}

@@ -1,6 +1,6 @@
-use Rattle.std.proofs.Common.{◌≡◌, ℕ, suc, ◌+◌, ◌-◌, ◌<◌, ◌≤◌, ◌⊎◌, ℤ, ◌≤ℤ◌, ◌<ℤ◌, sym, ap, ◌∙◌, subst, inl, inr, ⊎_elim, add-one, arith, w32, w64, SFits, to_z, of_z, rules}
+use Rattle.std.proofs.Common.{◌≡◌, ℕ, suc, ◌+◌, ◌<◌, ◌⊎◌, ◌≤ℤ◌, ◌<ℤ◌, sym, ◌∙◌, subst, inl, inr, ⊎_elim, arith, w32, SFits, rules}
 use Rattle.std.proofs.lemmas.Int.{ints, to_z-of_z}
-use Rattle.zone_rows.proofs.Lawful.{Ruled, ruled}
+use Rattle.zone_rows.proofs.Lawful.{ruled}
 use Rattle.zone_rows.proofs.Sought.{held_between}
 use Rattle.zone_table.specs.Layout.{seconds, offsets}
 use Rattle.row_search.proofs.offset_held.Goals as goal

@@ -1,4 +1,4 @@
-use Rattle.std.proofs.Common.{sym, ◌∙◌, arith}
+use Rattle.std.proofs.Common.{sym, arith}
 use Rattle.zone_table.specs.Layout.{keeps_at, zones}
 use Rattle.zone_table.proofs.Steps.{start_none, start_more, start_within, breach_none, breach_more, breach_stops, failing_below, laid_facts}
 use Rattle.zone_table.proofs.first_breach.Goals as goal

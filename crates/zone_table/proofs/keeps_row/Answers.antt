@@ -1,4 +1,4 @@
-use Rattle.std.proofs.Common.{sym, ◌∙◌, arith}
+use Rattle.std.proofs.Common.{sym, arith}
 use Rattle.zone_table.specs.Layout.{seconds, offsets}
 use Rattle.zone_table.proofs.Steps.{first_is, stops_is, second_is, third_is}
 use Rattle.zone_table.proofs.keeps_row.Goals as goal

@@ -1,4 +1,4 @@
-use Rattle.std.proofs.Common.{sym, ◌∙◌, arith}
+use Rattle.std.proofs.Common.{sym, arith}
 use Rattle.zone_table.specs.Layout.{keeps_at}
 use Rattle.zone_table.proofs.Steps.{failing_none, failing_more, failing_stops}
 use Rattle.zone_table.proofs.zone_breach.Goals as goal

@@ -1,4 +1,3 @@
-use Rattle.std.proofs.Common.{rules}
 use Rattle.rounding.proofs.Signs.{turned_up}
 use Rattle.rounding.proofs.IncrementRounder.round.Goals as goal
 

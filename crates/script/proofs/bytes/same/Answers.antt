@@ -1,4 +1,4 @@
-use Rattle.std.proofs.Common.{◌≡◌, ◌<◌, ◌≤◌, length, sym, ◌∙◌, arith}
+use Rattle.std.proofs.Common.{◌<◌, ◌≤◌, length, sym, ◌∙◌, arith}
 use Rattle.script.proofs.Cutting.{alike_more, alike_not, alike_lengths, alike_end}
 use Rattle.script.proofs.bytes.same.Goals as goal
 

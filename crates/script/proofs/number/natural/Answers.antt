@@ -1,4 +1,4 @@
-use Rattle.std.proofs.Common.{◌≡◌, ◌<◌, ◌≢◌, length, sym, ◌∙◌, arith, false-eqb}
+use Rattle.std.proofs.Common.{◌≢◌, length, sym, ◌∙◌, arith, false-eqb}
 use Rattle.script.proofs.Digits.{goes, stops, ends}
 use Rattle.script.proofs.number.natural.Goals as goal
 

@@ -1,5 +1,4 @@
 use Rattle.std.proofs.Common.{arith}
-use Rattle.std.proofs.lemmas.Int.{ints}
 use Rattle.zone_table.proofs.Steps.{sound_laid}
 use Rattle.table_end.specs.Lawful.{some_row, rows_inside, kept_at}
 use Rattle.table_end.proofs.ProofedTableProvider.offset.Goals as goal

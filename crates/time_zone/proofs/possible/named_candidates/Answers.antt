@@ -1,4 +1,4 @@
-use Rattle.std.proofs.Common.{◌≡◌, Ok, ap, subst, w64, SFits, rules}
+use Rattle.std.proofs.Common.{Ok, ap, subst, w64, SFits, rules}
 use Rattle.std.proofs.lemmas.Int.{to_z-of_z}
 use Rattle.provider.specs.Answer.{CandidatesAnswer}
 use Rattle.provider.proofs.Determined.{one_answer}
