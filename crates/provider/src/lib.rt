@@ -65,7 +65,7 @@ pub trait Provider {
     // What each zone number means.
     ghost means: { Self → Meaning };
 
-    // The two laws are members and not `law`s, since an end over lent bytes has a lifetime, and a trait with a `law` has no such implementation.
+    // The two laws, which each implementation proves.
     ghost bounded: { (p : Self) (n : ℕ) → Each (means p n) Bounded };
 
     ghost spaced: { (p : Self) (n : ℕ) → Each (means p n) Spaced };

@@ -84,13 +84,21 @@ impl Roundable for Timespec {
     }
 }
 
-// A pair rounded to a multiple of an increment, itself a pair.
+// A pair that is worth what the rounded number is.
+fn rounded(number: Timespec, increment: Timespec, mode: RoundingMode) -> Timespec
+    requires positive { Holds (int_lt (pos 0) (worth increment)) }
+    requires room { unsigned_abs (worth number) + unsigned_abs (worth increment) < 2 ^ 63 * 1000000000 }
+    ensures { worth result ≡ rounded_to mode (worth number) (unsigned_abs (worth increment)) }
+{
+    IncrementRounder::from_signed_num(number, increment).round(mode)
+}
+
+// A pair rounded to a multiple of an increment, its nanoseconds below 10^9.
 pub fn round_timespec(number: Timespec, increment: Timespec, mode: RoundingMode) -> Timespec
     requires positive { Holds (int_lt (pos 0) (worth increment)) }
     requires room { unsigned_abs (worth number) + unsigned_abs (worth increment) < 2 ^ 63 * 1000000000 }
     ensures value { worth result ≡ rounded_to mode (worth number) (unsigned_abs (worth increment)) }
     ensures formed { result.nanos < 1000000000 }
 {
-    let rounded = IncrementRounder::from_signed_num(number, increment).round(mode);
-    of_worth(worth_of(rounded))
+    of_worth(worth_of(rounded(number, increment, mode)))
 }

@@ -3,16 +3,13 @@ use mir.Syntax.{w128}
 use lib.Signed.{lt_z_yes}
 use Rattle.std.proofs.lemmas.Int.{ints, to_z-of_z}
 use Rattle.clock.specs.Instants.{worth}
-use Rattle.rounding.specs.Rounding.{rounded_to}
 use Rattle.rounding.proofs.Bounds.{within_sum}
 use Rattle.rounding.proofs.pair.round_timespec.Goals as goal
 
 pub of_worth-requires : goal.of_worth-requires
 of_worth-requires c =
-    let e : worth c.round-rounded.result ≡ rounded_to c.args.mode (worth c.args.number) (unsigned_abs (worth c.args.increment)) =
-    rw (c.from_signed_num.ensures.1, c.from_signed_num.ensures.2) at c.round-rounded.ensures in
     let p : pos 0 <ℤ worth c.args.increment = lt_z_yes c.requires.positive in
-    let b = within_sum c.args.mode (worth c.args.number) (worth c.round-rounded.result) (unsigned_abs (worth c.args.increment)) (omega (arith, ints)) e in
+    let b = within_sum c.args.mode (worth c.args.number) (worth c.rounded.result) (unsigned_abs (worth c.args.increment)) (omega (arith, ints)) c.rounded.ensures in
     let f : SFits w128 c.worth_of.result = record { sfits = c.worth_of.type_inv } in
-    let s : unsigned_abs (to_z w128 (of_z w128 c.worth_of.result)) ≡ unsigned_abs (worth c.round-rounded.result) = ap unsigned_abs (to_z-of_z w128 c.worth_of.result f ∙ c.worth_of.ensures) in
+    let s : unsigned_abs (to_z w128 (of_z w128 c.worth_of.result)) ≡ unsigned_abs (worth c.rounded.result) = ap unsigned_abs (to_z-of_z w128 c.worth_of.result f ∙ c.worth_of.ensures) in
     omega (arith, s, b, c.requires.room)
