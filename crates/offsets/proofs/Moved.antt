@@ -3,7 +3,7 @@ use Rattle.std.proofs.Common.{◌≡◌, ℤ, pos, negsuc, ◌+ℤ◌, ◌-ℤ�
 use Rattle.std.proofs.lemmas.Int.{ints, by_lt_z}
 use Rattle.offsets.specs.Offsets.{Changes, jump, Apart}
 use Rattle.offsets.specs.Readers.{Reads, Leaps}
-use Rattle.offsets.proofs.Sides.{size}
+use Rattle.offsets.proofs.Sides.{size, sized}
 use Rattle.offsets.proofs.Walk.{Way, still, once, often, way, doubled}
 
 module _ (f : ℤ → ℤ) (apart : Apart f) (L c b a : ℤ) (gap : Leaps f L c b a) where
@@ -18,10 +18,6 @@ module _ (f : ℤ → ℤ) (apart : Apart f) (L c b a : ℤ) (gap : Leaps f L c 
       let l = gap.2 in
       let h = gap.3 in
       sized (f c -ℤ f (c -ℤ pos 1)) (omega (arith, ints)) ∙ (let e : f c -ℤ f (c -ℤ pos 1) ≡ a -ℤ b = omega (arith, ints) in e)
-    where
-      sized : (z : ℤ) → pos 0 ≤ℤ z → pos (nat_abs z) ≡ z
-      sized (pos n) k = refl
-      sized (negsuc n) k = let z : ⊥ = omega (arith, ints) in absurd z
 
   -- no change lies within the jump's size of the gap's change
   none_after : (e : ℤ) → c <ℤ e → e ≤ℤ (c +ℤ (a -ℤ b)) → Changes f e → ⊥

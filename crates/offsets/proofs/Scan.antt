@@ -4,7 +4,7 @@ use Rattle.std.proofs.lemmas.Int.{ints, by_lt_z}
 use Rattle.offsets.specs.Offsets.{Bounded, Apart}
 use Rattle.offsets.specs.Readers.{Reads, Leaps}
 use Rattle.offsets.specs.Starts.{Starts}
-use Rattle.offsets.proofs.Sides.{from_on, up_to}
+use Rattle.offsets.proofs.Sides.{sized, from_on, up_to}
 
 module _ (f : ℤ → ℤ) (L t : ℤ) (low : (t +ℤ f t) <ℤ L) where
   -- the first second after t that does not read before L
@@ -29,13 +29,9 @@ module _ (f : ℤ → ℤ) (L t : ℤ) (low : (t +ℤ f t) <ℤ L) where
   -- Where u does not read before L, there is a first such second up to u.
   pub scanned : (u : ℤ) → t ≤ℤ u → L ≤ℤ (u +ℤ f u) → First u
   scanned u h high =
-      let e : t +ℤ pos (nat_abs (u -ℤ t)) ≡ u = rest (u -ℤ t) (omega (arith, ints)) refl in
+      let e : t +ℤ pos (nat_abs (u -ℤ t)) ≡ u = omega (arith, ints, sized (u -ℤ t) (omega (arith, ints))) in
       let P : ℤ → Type 0 = λ x. First x ⊎ AllBefore x in
       ⊎_elim (λ w. w) (λ all. let z = all u h (omega (arith, ints)) in absurd (let y : ⊥ = omega (arith, ints) in y)) (subst P e (scans (nat_abs (u -ℤ t))))
-    where
-      rest : (d : ℤ) → pos 0 ≤ℤ d → d ≡ u -ℤ t → t +ℤ pos (nat_abs d) ≡ u
-      rest (pos n) k e = omega (arith, ints)
-      rest (negsuc n) k e = omega (arith, ints)
 
 -- An instant so long before L reads before it, and one so long after it reads after it.
 day_before : (f : ℤ → ℤ) → Bounded f → (L : ℤ) → ((L -ℤ pos 86400) +ℤ f (L -ℤ pos 86400)) <ℤ L

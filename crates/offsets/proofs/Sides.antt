@@ -7,6 +7,10 @@ pub size : (z : ℤ) → (z ≤ℤ pos (nat_abs z)) × ((pos 0 -ℤ z) ≤ℤ po
 size (pos n) = (omega (arith, ints), omega (arith, ints))
 size (negsuc n) = (omega (arith, ints), omega (arith, ints))
 
+pub sized : (z : ℤ) → pos 0 ≤ℤ z → pos (nat_abs z) ≡ z
+sized (pos n) h = refl
+sized (negsuc n) h = let z : ⊥ = omega (arith, ints) in absurd z
+
 pub same_or : (a b : ℤ) → (a ≡ b) ⊎ (a ≡ b → ⊥)
 same_or a b = by_lt_z a b (λ h. inr (λ e. omega (arith, ints))) (λ h. by_lt_z b a (λ k. inr (λ e. omega (arith, ints))) (λ k. inl (omega (arith, ints))))
 
@@ -75,29 +79,21 @@ module _ (f : ℤ → ℤ) (apart : Apart f) (L : ℤ) where
 
     pub from_on : (t : ℤ) → c ≤ℤ t → L <ℤ (t +ℤ f t)
     from_on t h =
-        let z : c +ℤ pos (nat_abs (t -ℤ c)) ≡ t = rest (t -ℤ c) (omega (arith, ints)) refl in
+        let z : c +ℤ pos (nat_abs (t -ℤ c)) ≡ t = omega (arith, ints, sized (t -ℤ c) (omega (arith, ints))) in
         let a : Above t = subst Above z (ups (nat_abs (t -ℤ c))) in
         let u = a.until in
         let s = a.same in
         let l = a.later in
         omega (arith, ints)
-      where
-        rest : (d : ℤ) → pos 0 ≤ℤ d → d ≡ t -ℤ c → c +ℤ pos (nat_abs d) ≡ t
-        rest (pos n) k e = omega (arith, ints)
-        rest (negsuc n) k e = omega (arith, ints)
 
     pub up_to : (t : ℤ) → t <ℤ c → (t +ℤ f t) <ℤ L
     up_to t h =
-        let z : (c -ℤ pos 1) -ℤ pos (nat_abs ((c -ℤ pos 1) -ℤ t)) ≡ t = rest ((c -ℤ pos 1) -ℤ t) (omega (arith, ints)) refl in
+        let z : (c -ℤ pos 1) -ℤ pos (nat_abs ((c -ℤ pos 1) -ℤ t)) ≡ t = omega (arith, ints, sized ((c -ℤ pos 1) -ℤ t) (omega (arith, ints))) in
         let a : Under t = subst Under z (downs (nat_abs ((c -ℤ pos 1) -ℤ t))) in
         let u = a.past in
         let s = a.same in
         let l = a.earlier in
         omega (arith, ints)
-      where
-        rest : (d : ℤ) → pos 0 ≤ℤ d → d ≡ (c -ℤ pos 1) -ℤ t → (c -ℤ pos 1) -ℤ pos (nat_abs d) ≡ t
-        rest (pos n) k e = omega (arith, ints)
-        rest (negsuc n) k e = omega (arith, ints)
 
     -- one gap at most
     pub only_gap : (d : ℤ) → (d +ℤ f (d -ℤ pos 1)) ≤ℤ L → L <ℤ (d +ℤ f d) → c ≡ d

@@ -3,7 +3,7 @@ use Rattle.std.proofs.Common.{◌≡◌, ℕ, zero, suc, ℤ, pos, negsuc, ◌+�
 use Rattle.std.proofs.lemmas.Int.{ints, by_lt_z}
 use Rattle.offsets.specs.Offsets.{Changes, Apart}
 use Rattle.offsets.specs.Laws.{OneBack}
-use Rattle.offsets.proofs.Sides.{same_or, size}
+use Rattle.offsets.proofs.Sides.{same_or, size, sized}
 
 module _ (f : ℤ → ℤ) (apart : Apart f) (t : ℤ) where
   -- No change after t and up to u.
@@ -87,11 +87,9 @@ module _ (f : ℤ → ℤ) (apart : Apart f) (t : ℤ) where
 
   -- How the walk from t to u goes.
   pub way : (u : ℤ) → t ≤ℤ u → Way u
-  way u h = subst Way (rest (u -ℤ t) (omega (arith, ints)) refl) (ways (nat_abs (u -ℤ t)))
-    where
-      rest : (d : ℤ) → pos 0 ≤ℤ d → d ≡ u -ℤ t → t +ℤ pos (nat_abs d) ≡ u
-      rest (pos n) k e = omega (arith, ints)
-      rest (negsuc n) k e = omega (arith, ints)
+  way u h =
+      let e : t +ℤ pos (nat_abs (u -ℤ t)) ≡ u = omega (arith, ints, sized (u -ℤ t) (omega (arith, ints))) in
+      subst Way e (ways (nat_abs (u -ℤ t)))
 
 -- Two instants that read alike, the earlier first.
 pub doubled : (f : ℤ → ℤ) → Apart f → (t u : ℤ) → t <ℤ u → t +ℤ f t ≡ u +ℤ f u → OneBack f t u

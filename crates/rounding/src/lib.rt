@@ -162,6 +162,21 @@ impl<N: Roundable> IncrementRounder<N> {
     }
 }
 
+// Where `past` of a step lies from its half.
+fn compare_half(past: u128, step: u128) -> Ordering
+    requires { past ≤ step }
+    ensures { result ≡ half_of past step }
+{
+    let short = step - past;
+    if past < short {
+        Ordering::Less
+    } else if past == short {
+        Ordering::Equal
+    } else {
+        Ordering::Greater
+    }
+}
+
 impl Roundable for i64 {
     ghost value = { λ x. x };
 
@@ -186,15 +201,7 @@ impl Roundable for i64 {
     }
 
     fn compare_remainder(self, divisor: i64) -> Ordering {
-        let past = self % divisor;
-        let short = divisor - past;
-        if past < short {
-            Ordering::Less
-        } else if past == short {
-            Ordering::Equal
-        } else {
-            Ordering::Greater
-        }
+        compare_half((self % divisor) as u128, divisor as u128)
     }
 
     fn is_even_cardinal(self, divisor: i64) -> bool {

@@ -1,10 +1,10 @@
 // The pair of seconds and nanoseconds as one number to round.
-ghost use Rattle.std.specs.Prelude.{◌≡◌, ◌+◌, ◌*◌, ◌^◌, ◌<◌, ◌≤◌, T as Holds, pos, int_lt, unsigned_abs};
+ghost use Rattle.std.specs.Prelude.{◌≡◌, ◌+◌, ◌*◌, ◌^◌, ◌<◌, T as Holds, pos, int_lt, unsigned_abs};
 ghost use Rattle.clock.specs.Instants.{worth};
-ghost use Rattle.rounding.specs.Rounding.{half_of, rounded_to};
+ghost use Rattle.rounding.specs.Rounding.{rounded_to};
 ghost use Rattle.std.proofs.Common.{rules};
 
-use crate::{IncrementRounder, Roundable, RoundingMode};
+use crate::{IncrementRounder, Roundable, RoundingMode, compare_half};
 use clock::Timespec;
 use std::cmp::Ordering;
 
@@ -24,21 +24,6 @@ fn of_worth(count: i128) -> Timespec
     Timespec {
         seconds: count.div_euclid(1_000_000_000) as i64,
         nanos: count.rem_euclid(1_000_000_000) as u32,
-    }
-}
-
-// Where `past` of a step lies from its half.
-fn compare_half(past: u128, step: u128) -> Ordering
-    requires { past ≤ step }
-    ensures { result ≡ half_of past step }
-{
-    let short = step - past;
-    if past < short {
-        Ordering::Less
-    } else if past == short {
-        Ordering::Equal
-    } else {
-        Ordering::Greater
     }
 }
 

@@ -5,12 +5,9 @@ use Rattle.offsets.specs.Readers.{Reads, Reading, Found}
 use Rattle.offsets.specs.declared.Candidate.{Candidate}
 use Rattle.offsets.specs.declared.Candidates.{Candidates}
 use Rattle.offsets.specs.declared.Candidates.TheVariants.{Gap, One, Two}
+use Rattle.offsets.proofs.Sides.{size}
 use Rattle.zone_rows.specs.Rows.{held}
 use Rattle.zone_rows.proofs.Lawful.{Ruled, fewer, held_from, held_before, held_first, held_last}
-
-size : (z : ℤ) → (z ≤ℤ pos (nat_abs z)) × ((pos 0 -ℤ z) ≤ℤ pos (nat_abs z))
-size (pos n) = (omega (arith, ints), omega (arith, ints))
-size (negsuc n) = (omega (arith, ints), omega (arith, ints))
 
 module _ (sec off : ℕ → ℤ) where
   -- before a row's second, instants read earlier than that second at the offset before it

@@ -1,16 +1,7 @@
 use native.Mathlib.Omega.{arith}
-use mathlib.Core.Path.{◌≡◌, ap, ◌∙◌}
-use Prim.Native.Nat.{ℕ}
-use lib.IntN.{ℤ}
 use Rattle.calendar.proofs.Floors.{floors}
-use Rattle.clock.specs.declared.Timespec.{Timespec}
+use Rattle.clock.proofs.Pairs.{same_pair}
 use Rattle.clock.proofs.iso_date_time.Goals as goal
-
-same_pair : (a b : Timespec) → a.seconds ≡ b.seconds → a.nanos ≡ b.nanos → a ≡ b
-same_pair a b e f =
-    let g : ℤ → Timespec = λ s. record { seconds = s; nanos = a.nanos } in
-    let h : ℕ → Timespec = λ n. record { seconds = b.seconds; nanos = n } in
-    ap g e ∙ ap h f
 
 pub returns : goal.returns
 returns c =
