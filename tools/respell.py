@@ -18,7 +18,6 @@ TOKEN = re.compile(r"[^\s(){}\[\].,;:|\"⌜⌝«»@]+")
 SIGNATURE = re.compile(r"\s*(?:abbrev |unfoldable )?(?:pub )?(?:abbrev )?([^\s(){}:.,;|]+) : (.*)$")
 TYPE = re.compile(r"\s*(?:pub )?(?:record|data) ([^\s(){}:]+)")
 RULESET = re.compile(r"\s*(?:pub )?ruleset ([^\s(){}:]+)")
-MODULE = re.compile(r"\s*module ([^\s(){}:]+)")
 ALIAS = re.compile(r" as ([^\s(){},;]+)")
 
 

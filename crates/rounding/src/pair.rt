@@ -16,7 +16,7 @@ fn worth_of(pair: Timespec) -> i128
 }
 
 // The pair that is worth so many nanoseconds.
-fn of_worth(count: i128) -> Timespec
+fn pair_of(count: i128) -> Timespec
     requires { unsigned_abs count < 2 ^ 63 * 1000000000 }
     ensures value { worth result ≡ count }
     ensures nanos { result.nanos < 1000000000 }
@@ -43,7 +43,7 @@ impl Roundable for Timespec {
     }
 
     fn negated(self) -> Timespec {
-        of_worth(-worth_of(self))
+        pair_of(-worth_of(self))
     }
 
     fn is_exact(self, divisor: Timespec) -> bool {
@@ -61,11 +61,11 @@ impl Roundable for Timespec {
 
     fn result_floor(self, divisor: Timespec) -> Timespec {
         let count = worth_of(self);
-        of_worth(count - count % worth_of(divisor))
+        pair_of(count - count % worth_of(divisor))
     }
 
     fn result_ceil(self, divisor: Timespec) -> Timespec {
-        of_worth(worth_of(self.result_floor(divisor)) + worth_of(divisor))
+        pair_of(worth_of(self.result_floor(divisor)) + worth_of(divisor))
     }
 }
 
@@ -85,5 +85,5 @@ pub fn round_timespec(number: Timespec, increment: Timespec, mode: RoundingMode)
     ensures value { worth result ≡ rounded_to mode (worth number) (unsigned_abs (worth increment)) }
     ensures formed { result.nanos < 1000000000 }
 {
-    of_worth(worth_of(rounded(number, increment, mode)))
+    pair_of(worth_of(rounded(number, increment, mode)))
 }

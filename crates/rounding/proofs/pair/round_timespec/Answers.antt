@@ -6,8 +6,8 @@ use Rattle.clock.specs.Instants.{worth}
 use Rattle.rounding.proofs.Bounds.{within_sum}
 use Rattle.rounding.proofs.pair.round_timespec.Goals as goal
 
-pub of_worth-requires : goal.of_worth-requires
-of_worth-requires c =
+pub pair_of-requires : goal.pair_of-requires
+pair_of-requires c =
     let p : pos 0 <ℤ worth c.args.increment = lt_z_yes c.requires.positive in
     let b = within_sum c.args.mode (worth c.args.number) (worth c.rounded.result) (unsigned_abs (worth c.args.increment)) (omega (arith, ints)) c.rounded.ensures in
     let f : SFits w128 c.worth_of.result = record { sfits = c.worth_of.type_inv } in
