@@ -2,10 +2,10 @@
 use Rattle.std.proofs.Common.{◌≡◌, ℕ, zero, suc, ◌+◌, ◌-◌, ◌<◌, ◌≤◌, Bool, true, false, cond, ◌⊎◌, ℤ, pos, ◌+ℤ◌, ◌-ℤ◌, nat_abs, ◌≤ℤ◌, ◌<ℤ◌, Ordering, Less, Equal, Greater, sym, refl, ap, ◌∙◌, inl, inr, ⊎_elim, arith}
 use borrow.Author.Differences.{ints}
 use Rattle.std.proofs.lemmas.Int.{by_lt_z}
-use Rattle.std.proofs.lemmas.Bool.{cases_lt, cases_order}
+use Rattle.std.proofs.lemmas.Bool.{cases_order}
 use Rattle.std.specs.Ordering.{MatchOrdering, ordering_then, int_cmp, nat_cmp}
 use Rattle.std.specs.Cmp.{int_ranks, ranks}
-use Rattle.std.proofs.lemmas.Cmp.{ranked as nat_ranked}
+use Rattle.std.proofs.lemmas.Cmp.{by_ranked}
 use Rattle.calendar.specs.declared.IsoDate.{IsoDate}
 use Rattle.calendar.specs.Gregorian.{leap, year_length, month_length, months_before, year_start, epoch_days, Valid, Earlier, Real, day_of}
 use Rattle.calendar.proofs.Years.{start_next}
@@ -53,15 +53,11 @@ unfolding months_before
 month_next l zero h = absurd (omega arith)
 month_next l (suc m) h = let e : suc m + 1 - 1 ≡ suc m = omega arith in let k : suc m - 1 ≡ m = omega arith in rw (e, k)
 
--- a day of the year that passes the month m is not past December
-pub not_last : (l : Bool) (m left day : ℕ) → 1 ≤ m → m ≤ 12 → months_before l (m - 1) + left ≡ day → month_length l m ≤ left → day < cond l 366 365 → m < 12
-not_last l m left day p q e h k = ⊎_elim (λ t. t) (λ t. absurd (december (omega arith))) (cases_lt m 12)
-  where
-    december : m ≡ 12 → ⊥
-    december t =
-        let a : months_before l 11 + left ≡ day = rw t at e in
-        let b : month_length l 12 ≤ left = rw t at h in
-        omega (arith, whole_year l, month_next l 12 (omega arith))
+-- a day of the year past November is one of December's
+pub december : (l : Bool) (m left day : ℕ) → m ≡ 12 → months_before l (m - 1) + left ≡ day → day < cond l 366 365 → left < 31
+december l m left day t e h =
+    let k : months_before l 11 + left ≡ day = rw t at e in
+    omega (arith, whole_year l, month_next l 12 (omega arith))
 
 -- the day of a date lies in its year
 pub in_year : (y : ℤ) (m d : ℕ) → Valid y m d → months_before (leap y) (m - 1) + d ≤ year_length y
@@ -112,28 +108,23 @@ same_date a b p q r =
     let h : ℕ → IsoDate = λ d. record { year = b.year; month = b.month; day = d } in
     ap f p ∙ ap g q ∙ ap h r
 
--- one field decides, or leaves the answer to the next
-chain : (P Q R : Type 0) (p o k : Ordering) → MatchOrdering p P Q R → o ≡ ordering_then p k → (P × (o ≡ Less)) ⊎ ((R × (o ≡ Greater)) ⊎ (Q × (o ≡ k)))
-chain P Q R Less o k h e = inl (h, e)
-chain P Q R Equal o k h e = inr (inr (h, e))
-chain P Q R Greater o k h e = inr (inl (h, e))
-
--- which field decides the order of the fields
-pub by_fields : (y z : ℤ) (m n d e : ℕ) (o : Ordering) → o ≡ ordering_then (int_cmp y z) (ordering_then (nat_cmp m n) (nat_cmp d e))
-    → ((y <ℤ z) × (o ≡ Less)) ⊎ (((z <ℤ y) × (o ≡ Greater)) ⊎ ((y ≡ z) × (((m < n) × (o ≡ Less)) ⊎ (((n < m) × (o ≡ Greater)) ⊎ ((m ≡ n) × MatchOrdering o (d < e) (d ≡ e) (e < d))))))
-by_fields y z m n d e o h = ⊎_elim inl (λ r. inr (⊎_elim inl (λ s. inr (s.0, months s.1)) r)) (chain (y <ℤ z) (y ≡ z) (z <ℤ y) (int_cmp y z) o (ordering_then (nat_cmp m n) (nat_cmp d e)) (int_ranks y z) h)
-  where
-    months : o ≡ ordering_then (nat_cmp m n) (nat_cmp d e) → ((m < n) × (o ≡ Less)) ⊎ (((n < m) × (o ≡ Greater)) ⊎ ((m ≡ n) × MatchOrdering o (d < e) (d ≡ e) (e < d)))
-    months k = ⊎_elim inl (λ r. inr (⊎_elim inl (λ s. inr (s.0, nat_ranked d e o s.1)) r)) (chain (m < n) (m ≡ n) (n < m) (nat_cmp m n) o (nat_cmp d e) (ranks m n) k)
-
--- what the fields' order says of the days
-pub ranked : (a b : IsoDate) (o : Ordering) → Real a → Real b
-    → ((a.year <ℤ b.year) × (o ≡ Less)) ⊎ (((b.year <ℤ a.year) × (o ≡ Greater)) ⊎ ((a.year ≡ b.year) × (((a.month < b.month) × (o ≡ Less)) ⊎ (((b.month < a.month) × (o ≡ Greater)) ⊎ ((a.month ≡ b.month) × MatchOrdering o (a.day < b.day) (a.day ≡ b.day) (b.day < a.day))))))
+-- the order of the fields is that of the days
+pub days_ranked : (a b : IsoDate) (o : Ordering) → Real a → Real b → o ≡ ordering_then (int_cmp a.year b.year) (ordering_then (nat_cmp a.month b.month) (nat_cmp a.day b.day))
     → MatchOrdering o (day_of a <ℤ day_of b) (a ≡ b) (day_of b <ℤ day_of a)
-ranked a b o v w (inl (h, e)) = rw e (earlier_days _ _ _ _ _ _ v w (inl h))
-ranked a b o v w (inr (inl (h, e))) = rw e (earlier_days _ _ _ _ _ _ w v (inl h))
-ranked a b o v w (inr (inr (p, inl (h, e)))) = rw e (earlier_days _ _ _ _ _ _ v w (inr (p, inl h)))
-ranked a b o v w (inr (inr (p, inr (inl (h, e))))) = rw e (earlier_days _ _ _ _ _ _ w v (inr (sym p, inl h)))
-ranked a b Less v w (inr (inr (p, inr (inr (q, h))))) = earlier_days _ _ _ _ _ _ v w (inr (p, inr (q, h)))
-ranked a b Equal v w (inr (inr (p, inr (inr (q, h))))) = same_date a b p q h
-ranked a b Greater v w (inr (inr (p, inr (inr (q, h))))) = earlier_days _ _ _ _ _ _ w v (inr (sym p, inr (sym q, h)))
+days_ranked a b o v w e =
+    by_ranked _ _ _ (int_cmp a.year b.year) (int_ranks a.year b.year)
+    (λ l h. less (cc) (inl h))
+    (λ l p. by_ranked _ _ _ (nat_cmp a.month b.month) (ranks a.month b.month)
+    (λ m h. less (cc) (inr (p, inl h)))
+    (λ m q. by_ranked _ _ _ (nat_cmp a.day b.day) (ranks a.day b.day)
+    (λ d h. less (cc) (inr (p, inr (q, h))))
+    (λ d h. let r : o ≡ Equal = cc in rw r (same_date a b p q h))
+    (λ d h. greater (cc) (inr (sym p, inr (sym q, h)))))
+    (λ m h. greater (cc) (inr (sym p, inl h))))
+    (λ l h. greater (cc) (inl h))
+  where
+    less : o ≡ Less → Earlier a.year a.month a.day b.year b.month b.day → MatchOrdering o (day_of a <ℤ day_of b) (a ≡ b) (day_of b <ℤ day_of a)
+    less r h = rw r (earlier_days _ _ _ _ _ _ v w h)
+
+    greater : o ≡ Greater → Earlier b.year b.month b.day a.year a.month a.day → MatchOrdering o (day_of a <ℤ day_of b) (a ≡ b) (day_of b <ℤ day_of a)
+    greater r h = rw r (earlier_days _ _ _ _ _ _ w v h)

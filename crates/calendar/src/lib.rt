@@ -1,14 +1,15 @@
 // The proleptic Gregorian calendar.
 #![tactic(auto)]
 
-ghost use Rattle.std.specs.Prelude.{◌≡◌, ◌+◌, ◌-◌, ◌<◌, ◌≤◌, true, cond, ◌<ℤ◌, unsigned_abs};
-ghost use Rattle.calendar.specs.Gregorian.{leap, month_length, months_before, year_start, epoch_days, day_of, Real, valid_date};
+ghost use Rattle.std.specs.Prelude.{◌≡◌, ◌+◌, ◌-◌, ◌<◌, ◌≤◌, true, cond, pos, ◌+ℤ◌, ◌-ℤ◌, ◌<ℤ◌, unsigned_abs};
+ghost use Rattle.calendar.specs.Gregorian.{leap, month_length, months_before, year_start, day_of, Real, valid_date};
 ghost use Rattle.calendar.specs.Parts.{leap_days, years_from, Placed};
 ghost use Rattle.calendar.specs.Laws.{YearsFollow, ByFormula, OneDate, InOrder};
 ghost use Rattle.std.specs.Ordering.{MatchOrdering};
 
 use std::cmp::Ordering;
 
+#[tactic(auto, using(crate::proofs::Floors::rests, crate::proofs::Floors::signs), unfolding(crate::specs::Gregorian::leap))]
 fn is_leap(year: i32) -> bool
     ensures { result ≡ leap year }
 {
@@ -26,6 +27,7 @@ fn month_length(leap_year: bool, month: u8) -> u8
     }
 }
 
+// An array, since months are numbers: a map would be no plainer.
 const BEFORE: [u16; 12] = [0, 31, 59, 90, 120, 151, 181, 212, 243, 273, 304, 334];
 
 // The days of the months before `month`.
@@ -33,7 +35,7 @@ fn days_before_month(leap_year: bool, month: u8) -> u16
     requires { (1 ≤ month) × (month ≤ 12) }
     ensures { result ≡ months_before leap_year (month - 1) }
 {
-    let before = BEFORE[month as usize - 1];
+    let before = BEFORE[usize::from(month) - 1];
     if leap_year && month > 2 {
         before + 1
     } else {
@@ -58,27 +60,40 @@ fn year_start(year: i32) -> i64
     past * 365 + leap_days(past) - 719_162
 }
 
-pub fn epoch_days(year: i32, month: u8, day: u8) -> i64
-    requires { (1 ≤ month) × (month ≤ 12) }
-    ensures value { result ≡ epoch_days year month day }
-    ensures bounds { unsigned_abs result ≤ 1000000100000 }
-{
-    let before = days_before_month(is_leap(year), month);
-    year_start(year) + i64::from(before) + i64::from(day) - 1
-}
-
-#[derive(Clone, Copy, PartialEq, Eq, PartialOrd, Ord)]
+/// No ghost field: any numbers come in from outside, and `is_valid_date` tells the calendar's dates.
+#[derive(Clone, Copy, Debug, PartialEq, Eq, PartialOrd, Ord)]
 pub struct IsoDate {
     pub year: i32,
     pub month: u8,
     pub day: u8,
 }
 
-// Whether the calendar has the date.
+// The day on which a month begins.
+#[tactic(auto, using(crate::proofs::Floors::signs))]
+fn month_start(year: i32, month: u8) -> i64
+    requires { (1 ≤ month) × (month ≤ 12) }
+    ensures value { result ≡ year_start year +ℤ pos (months_before (leap year) (month - 1)) }
+    ensures bounds { unsigned_abs result ≤ 1000000070000 }
+{
+    year_start(year) + i64::from(days_before_month(is_leap(year), month))
+}
+
+/// The day of a date; its year and month are the calendar's, its day may be any.
+#[tactic(auto, using(crate::proofs::Floors::signs))]
+pub fn epoch_days(date: IsoDate) -> i64
+    requires { (1 ≤ date.month) × (date.month ≤ 12) }
+    ensures value { result ≡ day_of date }
+    ensures bounds { unsigned_abs result ≤ 1000000100000 }
+{
+    month_start(date.year, date.month) + i64::from(date.day) - 1
+}
+
+/// Whether the calendar has the date.
 pub fn is_valid_date(date: IsoDate) -> bool
     ensures test { result ≡ valid_date date }
     ensures real { result ≡ true → Real date }
 {
+    // By hand: with `contains` the search comes to its limit.
     1 <= date.month
         && date.month <= 12
         && 1 <= date.day
@@ -108,29 +123,46 @@ fn split_months(leap_year: bool, day: u32) -> (u8, u8)
     requires { day < cond leap_year 366 365 }
     ensures { Placed leap_year day result.0 result.1 }
 {
-    let mut month = 1;
+    // The casts lose nothing, which is proved; `try_from` would add a branch that never comes.
     let mut left = day;
-    while left >= u32::from(month_length(leap_year, month)) {
-        left -= u32::from(month_length(leap_year, month));
-        month += 1;
+    for month in 1..12 {
+        let length = u32::from(month_length(leap_year, month));
+        if left < length {
+            return (month, left as u8 + 1);
+        }
+        left -= length;
     }
-    (month, left as u8 + 1)
+    (12, left as u8 + 1)
 }
 
 const CYCLES: i64 = 700;
 
-// The date of a day.
-pub fn civil(days: i64) -> IsoDate
-    requires { unsigned_abs days ≤ 100100000 }
-    ensures { (Real result) × (day_of result ≡ days) }
+// The date of a day of a year, years counted from the first of a 400-year cycle and days from 0.
+fn date_in_year(years: u32, day: u32) -> IsoDate
+    requires small { years < 20000000 }
+    requires within { years_from years + day < years_from (years + 1) }
+    ensures real { Real result }
+    ensures counted { day_of result ≡ pos (years_from years + day) -ℤ pos 102987062 }
 {
-    let from_cycle = (days + 719_162 + 146_097 * CYCLES) as u32;
-    let (years, day) = split_years(from_cycle);
+    // The cast loses nothing, which is proved; `try_from` would add a branch that never comes.
     let year = years as i32 - 279_999;
     let (month, day) = split_months(is_leap(year), day);
     IsoDate { year, month, day }
 }
 
+/// The date of a day.
+#[tactic(auto, using(crate::proofs::Cycles::years_low, crate::proofs::Floors::signs))]
+pub fn civil(days: i64) -> IsoDate
+    requires { unsigned_abs days ≤ 100100000 }
+    ensures { (Real result) × (day_of result ≡ days) }
+{
+    // The cast loses nothing, which is proved; `try_from` would add a branch that never comes.
+    let from_cycle = (days + 719_162 + 146_097 * CYCLES) as u32;
+    let (years, day) = split_years(from_cycle);
+    date_in_year(years, day)
+}
+
+#[tactic(auto, using(crate::proofs::Order::days_ranked))]
 pub fn compare(a: IsoDate, b: IsoDate) -> Ordering
     requires { (Real a) × (Real b) }
     ensures { MatchOrdering result (day_of a <ℤ day_of b) (a ≡ b) (day_of b <ℤ day_of a) }
@@ -138,7 +170,7 @@ pub fn compare(a: IsoDate, b: IsoDate) -> Ordering
     a.cmp(&b)
 }
 
-// The laws of the calendar that the contracts cite, each proved.
+/// The laws of the calendar that the contracts cite, each proved.
 pub fn laws_hold()
     ensures { (YearsFollow) × ((ByFormula) × ((OneDate) × (InOrder))) }
 {}

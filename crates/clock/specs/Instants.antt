@@ -1,6 +1,5 @@
 -- Instants and local times in nanoseconds, and their limits.
-use Rattle.std.specs.Prelude.{◌≡◌, Bool, true, ◌&&◌, ltb, ℤ, pos, negsuc, ◌+ℤ◌, ◌*ℤ◌}
-use Rattle.std.specs.Int.Signed.{le_z, lt_z}
+use Rattle.std.specs.Prelude.{◌≡◌, Bool, true, ◌&&◌, ℤ, pos, negsuc, ◌+ℤ◌, ◌*ℤ◌, nat_lt, int_le, int_lt}
 use Rattle.calendar.specs.declared.IsoDate.{IsoDate}
 use Rattle.calendar.specs.Gregorian.{day_of, Real}
 use Rattle.clock.specs.Clock.{shown, since_midnight}
@@ -14,11 +13,11 @@ worth p = p.seconds *ℤ pos 1000000000 +ℤ pos p.nanos
 
 -- An instant is at most 8.64 × 10^21 ns from the epoch.
 abbrev pub valid_epoch : Timespec → Bool
-valid_epoch p = ltb p.nanos 1000000000 && (le_z (negsuc 8639999999999999999999) (worth p) && le_z (worth p) (pos 8640000000000000000000))
+valid_epoch p = nat_lt p.nanos 1000000000 && (int_le (negsuc 8639999999999999999999) (worth p) && int_le (worth p) (pos 8640000000000000000000))
 
 -- A local time, counted as if in UTC, is less than a day past those limits.
 abbrev pub within_limits : Timespec → Bool
-within_limits p = ltb p.nanos 1000000000 && (lt_z (negsuc 8640000086399999999999) (worth p) && lt_z (worth p) (pos 8640000086400000000000))
+within_limits p = nat_lt p.nanos 1000000000 && (int_lt (negsuc 8640000086399999999999) (worth p) && int_lt (worth p) (pos 8640000086400000000000))
 
 -- A date and a time of day, counted as if in UTC.
 abbrev pub as_utc : IsoDate → IsoTime → Timespec

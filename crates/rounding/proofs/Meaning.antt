@@ -1,7 +1,7 @@
 -- What rounding means, proved.
 use Rattle.std.proofs.Common.{◌≡◌, ℕ, suc, ◌+◌, ◌*◌, ◌%◌, ◌<◌, ◌≤◌, true, false, ◌⊎◌, ℤ, pos, negsuc, neg_ℤ, nat_abs, ◌≤ℤ◌, refl, ap, ◌∙◌, subst, inl, inr, arith}
 use Rattle.std.proofs.lemmas.Int.{ints}
-use Rattle.std.proofs.lemmas.Bool.Decides.{leb_tells}
+use Rattle.std.proofs.lemmas.Bool.{cases_lt}
 use Rattle.rounding.specs.declared.RoundingMode.{RoundingMode}
 use Rattle.rounding.specs.declared.RoundingMode.TheVariants.{Ceil, Floor, Expand, Trunc, HalfCeil, HalfFloor, HalfExpand, HalfTrunc, HalfEven}
 use Rattle.rounding.specs.Rounding.{unsigned_of, applied}
@@ -9,27 +9,21 @@ use Rattle.rounding.specs.Words.{Multiple, apart, Away, Toward, Nearest, Asks, R
 use Rattle.rounding.proofs.Quotients.{Half, Taken, taken}
 use Rattle.rounding.proofs.Multiples.{one_multiple}
 
-lt_or_ge : (a b : ℕ) → (a < b) ⊎ (b ≤ a)
-lt_or_ge a b = elim (leb_tells b a) [ inl h ↦ inr h.1 | inr h ↦ inl h.1 ]
-
 -- the way between two numbers, read off either way round
 abbrev Way : ℕ → ℕ → ℕ → Type 0
 Way m v d = (v ≡ m + d) ⊎ (m ≡ v + d)
 
-way_of : (m v d : ℕ) → (m ≤ v → v ≡ m + d) → (v ≤ m → m ≡ v + d) → Way m v d
-way_of m v d f g = elim (lt_or_ge v m) [ inl h ↦ inr (g (omega arith)) | inr h ↦ inl (f h) ]
-
 way : (m v : ℕ) (x r : ℤ) → x ≡ pos m → r ≡ pos v → Way m v (apart r x)
-way m v x r p q = way_of m v (apart r x) (λ h. omega (arith, ints)) (λ h. omega (arith, ints))
+way m v x r p q = grind (arith, ints)
 
 way_below : (m v : ℕ) (x r : ℤ) → x ≡ neg_ℤ (pos m) → r ≡ neg_ℤ (pos v) → Way m v (apart r x)
-way_below m v x r p q = way_of m v (apart r x) (λ h. omega (arith, ints)) (λ h. omega (arith, ints))
+way_below m v x r p q = grind (arith, ints)
 
 near : (n m v d : ℕ) → Way m v d → v < m + n → m < v + n → d < n
-near n m v d w h k = elim w [ inl e ↦ omega arith | inr e ↦ omega arith ]
+near n m v d w h k = grind arith
 
 half : (n m v d : ℕ) (A : Type 0) → Way m v d → Half n m v A → 2 * d ≤ n
-half n m v d A w h = let a = h.above in let b = h.below in elim w [ inl e ↦ omega arith | inr e ↦ omega arith ]
+half n m v d A w h = grind arith
 
 tied : (n m v d : ℕ) (A : Type 0) → Way m v d → Half n m v A → 2 * d ≡ n → A
 tied n m v d A w h k = elim w [ inl e ↦ h.over (omega arith) | inr e ↦ h.under (omega arith) ]
@@ -89,7 +83,7 @@ as_asked o (negsuc m) n h =
 
 pub none_nearer : NoneNearer
 none_nearer x r s n h a b k =
-    elim (lt_or_ge (apart r s) n) [
+    elim (cases_lt (apart r s) n) [
       | inl l ↦ let e : r ≡ s = one_multiple n r s a b l in let P : ℤ → Type 0 = λ z. apart r x ≤ apart z x in subst P e (omega arith)
       | inr l ↦ omega (arith, ints)
     ]
@@ -97,26 +91,22 @@ none_nearer x r s n h a b k =
 -- two answers at most half an increment away are one, or both ties
 one_half : (n : ℕ) (x r s : ℤ) → Multiple n r → Multiple n s → 2 * apart r x ≤ n → 2 * apart s x ≤ n → (r ≡ s) ⊎ ((2 * apart r x ≡ n) × (2 * apart s x ≡ n))
 one_half n x r s a b p q =
-    elim (lt_or_ge (apart r s) n) [
+    elim (cases_lt (apart r s) n) [
       | inl l ↦ inl (one_multiple n r s a b l)
       | inr l ↦ inr (omega (arith, ints), omega (arith, ints))
     ]
 
 same_away : (x r s : ℤ) → Away x r → Away x s → apart r x ≡ apart s x → r ≡ s
-same_away (pos m) r s a b e = let f = a.above (omega (arith, ints)) in let g = b.above (omega (arith, ints)) in omega (arith, ints, a.size, b.size)
-same_away (negsuc m) r s a b e = let f = a.below (omega (arith, ints)) in let g = b.below (omega (arith, ints)) in omega (arith, ints, a.size, b.size)
+same_away x r s a b e = grind (arith, ints)
 
 same_toward : (x r s : ℤ) → Toward x r → Toward x s → apart r x ≡ apart s x → r ≡ s
-same_toward (pos m) r s a b e = let f = a.above (omega (arith, ints)) in let g = b.above (omega (arith, ints)) in omega (arith, ints, a.size, b.size)
-same_toward (negsuc m) r s a b e = let f = a.below (omega (arith, ints)) in let g = b.below (omega (arith, ints)) in omega (arith, ints, a.size, b.size)
+same_toward x r s a b e = grind (arith, ints)
 
 apart_away : (n : ℕ) (x r s : ℤ) → Away x r → Away x s → apart r x < n → apart s x < n → apart r s < n
-apart_away n (pos m) r s a b h k = let f = a.above (omega (arith, ints)) in let g = b.above (omega (arith, ints)) in omega (arith, ints, a.size, b.size)
-apart_away n (negsuc m) r s a b h k = let f = a.below (omega (arith, ints)) in let g = b.below (omega (arith, ints)) in omega (arith, ints, a.size, b.size)
+apart_away n x r s a b h k = grind (arith, ints)
 
 apart_toward : (n : ℕ) (x r s : ℤ) → Toward x r → Toward x s → apart r x < n → apart s x < n → apart r s < n
-apart_toward n (pos m) r s a b h k = let f = a.above (omega (arith, ints)) in let g = b.above (omega (arith, ints)) in omega (arith, ints, a.size, b.size)
-apart_toward n (negsuc m) r s a b h k = let f = a.below (omega (arith, ints)) in let g = b.below (omega (arith, ints)) in omega (arith, ints, a.size, b.size)
+apart_toward n x r s a b h k = grind (arith, ints)
 
 one_of_halves : (n : ℕ) (x r s : ℤ) (A B : Type 0) → Multiple n r → Multiple n s → Nearest n x r A → Nearest n x s B → (A → B → apart r x ≡ apart s x → 2 * apart s x ≡ n → r ≡ s) → r ≡ s
 one_of_halves n x r s A B a b p q f =

@@ -1,3 +1,3 @@
-mod Counts
 mod Readings
 mod Wholes
+pub mod Counts

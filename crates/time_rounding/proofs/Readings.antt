@@ -1,6 +1,6 @@
 -- A clock shows one time at each nanosecond of the day.
-use Rattle.std.proofs.Common.{◌≡◌, ℕ, ◌<◌, true, ◌&&◌, ltb, ap, ◌∙◌, arith, ltb-true}
-use Rattle.std.proofs.lemmas.Bool.{and_parts}
+use Rattle.std.proofs.Common.{◌≡◌, ℕ, ◌<◌, true, ap, ◌∙◌, arith}
+use Rattle.std.proofs.lemmas.Bool.Decides.{nat_tests}
 use Rattle.clock.specs.declared.IsoTime.{IsoTime}
 use Rattle.clock.specs.Clock.{shown}
 use Rattle.time_rounding.specs.Times.{OneReading}
@@ -12,16 +12,7 @@ record Within (t : IsoTime) : Type 0 where
   nanosecond : t.nanosecond < 1000000000
 
 within : (t : IsoTime) → shown t ≡ true → Within t
-within t h =
-    let a = and_parts (ltb t.hour 24 && ltb t.minute 60 && ltb t.second 60) (ltb t.nanosecond 1000000000) h in
-    let b = and_parts (ltb t.hour 24 && ltb t.minute 60) (ltb t.second 60) a.0 in
-    let c = and_parts (ltb t.hour 24) (ltb t.minute 60) b.0 in
-    record {
-      hour = ltb-true t.hour 24 c.0;
-      minute = ltb-true t.minute 60 c.1;
-      second = ltb-true t.second 60 b.1;
-      nanosecond = ltb-true t.nanosecond 1000000000 a.1;
-    }
+within t h = record { hour = grind (arith, nat_tests); minute = grind (arith, nat_tests); second = grind (arith, nat_tests); nanosecond = grind (arith, nat_tests) }
 
 same_time : (s t : IsoTime) → s.hour ≡ t.hour → s.minute ≡ t.minute → s.second ≡ t.second → s.nanosecond ≡ t.nanosecond → s ≡ t
 same_time s t a b c d =

@@ -11,7 +11,6 @@ use Rattle.rounding.proofs.Meaning.{as_asked}
 use Rattle.time_rounding.specs.declared.TimeUnit.{TimeUnit}
 use Rattle.time_rounding.specs.declared.TimeUnit.TheVariants.{Hour, Minute, Second, Millisecond, Microsecond, Nanosecond}
 use Rattle.time_rounding.specs.Times.{unit_length, in_larger, nanos_of_day, past, WithinOne, RoundsWithinOne, RoundsTheWhole}
-use Rattle.time_rounding.proofs.Counts.{close_above, close_below}
 
 some : (u : TimeUnit) (k : ℕ) → 0 < k → 0 < k * unit_length u
 some Hour k h = omega arith
@@ -80,8 +79,8 @@ kept u t = mod-le (nanos_of_day t) (in_larger u * unit_length u)
 
 within : (a k l x v : ℕ) → a % k ≡ 0 → v % (k * l) ≡ 0 → apart (pos v) (pos (x % (a * l))) < k * l → x % (a * l) ≤ x → WithinOne (k * l) x (x - x % (a * l) + v)
 within a k l x v e m d q =
-    let f : v < x % (a * l) + k * l = close_above (k * l) (x % (a * l)) v d in
-    let g : x % (a * l) < v + k * l = close_below (k * l) (x % (a * l)) v d in
+    let f : v < x % (a * l) + k * l = omega (arith, ints) in
+    let g : x % (a * l) < v + k * l = omega (arith, ints) in
     record { multiple = multiple a k l x v e m; above = omega arith; below = omega arith }
 
 pub within_one : RoundsWithinOne

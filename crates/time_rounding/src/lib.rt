@@ -9,7 +9,7 @@ ghost use Rattle.time_rounding.specs.Times.{unit_length, in_larger, allowed_incr
 use clock::IsoTime;
 use rounding::{IncrementRounder, RoundingMode};
 
-#[derive(Clone, Copy)]
+#[derive(Clone, Copy, Debug, PartialEq, Eq)]
 pub enum TimeUnit {
     Hour,
     Minute,
@@ -21,60 +21,60 @@ pub enum TimeUnit {
 
 const DAY: u64 = 86_400_000_000_000;
 
-// How many of a unit make the next larger one.
-fn in_larger(unit: TimeUnit) -> u16
-    ensures { result ≡ in_larger unit }
-{
-    match unit {
-        TimeUnit::Hour => 24,
-        TimeUnit::Minute | TimeUnit::Second => 60,
-        TimeUnit::Millisecond | TimeUnit::Microsecond | TimeUnit::Nanosecond => 1000,
+const SECOND: u64 = 1_000_000_000;
+
+impl TimeUnit {
+    /// The nanoseconds of a unit.
+    pub fn length(self) -> u64
+        ensures value { result ≡ unit_length self }
+        ensures some { 0 < result }
+    {
+        match self {
+            TimeUnit::Hour => 3_600_000_000_000,
+            TimeUnit::Minute => 60_000_000_000,
+            TimeUnit::Second => 1_000_000_000,
+            TimeUnit::Millisecond => 1_000_000,
+            TimeUnit::Microsecond => 1000,
+            TimeUnit::Nanosecond => 1,
+        }
+    }
+
+    /// How many of a unit make the next larger one.
+    pub fn in_larger(self) -> u16
+        ensures { result ≡ in_larger self }
+    {
+        match self {
+            TimeUnit::Hour => 24,
+            TimeUnit::Minute | TimeUnit::Second => 60,
+            TimeUnit::Millisecond | TimeUnit::Microsecond | TimeUnit::Nanosecond => 1000,
+        }
+    }
+
+    // So many of a unit, in nanoseconds; no more than a day.
+    fn span(self, count: u16) -> u64
+        requires { (0 < count) × (count ≤ in_larger self) }
+        ensures value { result ≡ count * unit_length self }
+        ensures some { 0 < result }
+        ensures bound { result ≤ 86400000000000 }
+    {
+        u64::from(count) * self.length()
     }
 }
 
-// Whether an increment may be asked for.
+/// Whether an increment may be asked for.
 pub fn is_allowed_increment(unit: TimeUnit, increment: u16) -> bool
     ensures { result ≡ allowed_increment unit increment }
 {
-    let larger = in_larger(unit);
+    let larger = unit.in_larger();
     0 < increment && increment < larger && larger % increment == 0
-}
-
-// So many units, in nanoseconds.
-fn units_length(unit: TimeUnit, count: u16) -> u64
-    requires { (0 < count) × (count ≤ in_larger unit) }
-    ensures value { result ≡ count * unit_length unit }
-    ensures some { 0 < result }
-    ensures bound { result ≤ 86400000000000 }
-{
-    let count = count as u64;
-    match unit {
-        TimeUnit::Hour => count * 3_600_000_000_000,
-        TimeUnit::Minute => count * 60_000_000_000,
-        TimeUnit::Second => count * 1_000_000_000,
-        TimeUnit::Millisecond => count * 1_000_000,
-        TimeUnit::Microsecond => count * 1000,
-        TimeUnit::Nanosecond => count,
-    }
 }
 
 // The nanoseconds since midnight.
 fn nanosecond_of_day(time: IsoTime) -> u64
-    requires { shown time ≡ true }
     ensures value { result ≡ nanos_of_day time }
-    ensures bound { result < 86400000000000 }
+    ensures bound { shown time ≡ true → result < 86400000000000 }
 {
-    let second = (time.hour as u64 * 60 + time.minute as u64) * 60 + time.second as u64;
-    second * 1_000_000_000 + time.nanosecond as u64
-}
-
-// A count of nanoseconds, rounded to an increment.
-fn rounded(count: u64, increment: u64, mode: RoundingMode) -> u64
-    requires { (count < 86400000000000) × ((0 < increment) × (increment ≤ 86400000000000)) }
-    ensures value { result ≡ unsigned_abs (rounded_to mode (pos count) increment) }
-    ensures bound { result < count + increment }
-{
-    IncrementRounder::from_signed_num(count as i64, increment as i64).round(mode) as u64
+    u64::from(time.second_of_day()) * SECOND + u64::from(time.nanosecond)
 }
 
 // The time of day that many nanoseconds after midnight.
@@ -83,16 +83,21 @@ fn time_of_day(count: u64) -> IsoTime
     ensures counted { nanos_of_day result ≡ count }
     ensures shows { shown result ≡ true }
 {
-    let second = count / 1_000_000_000;
-    IsoTime {
-        hour: (second / 3600) as u8,
-        minute: (second / 60 % 60) as u8,
-        second: (second % 60) as u8,
-        nanosecond: (count % 1_000_000_000) as u32,
-    }
+    // The casts lose nothing, which is proved; `try_from` would add branches that never come.
+    IsoTime::at_second((count / SECOND) as u32, (count % SECOND) as u32)
 }
 
-// A time of day rounded, and the days that it carries.
+// A count of nanoseconds, rounded to an increment.
+fn rounded(count: u64, increment: u64, mode: RoundingMode) -> u64
+    requires { (count < 86400000000000) × ((0 < increment) × (increment ≤ 86400000000000)) }
+    ensures value { result ≡ unsigned_abs (rounded_to mode (pos count) increment) }
+    ensures bound { result < count + increment }
+{
+    // The casts lose nothing, which is proved; `try_from` would add branches that never come.
+    IncrementRounder::from_signed_num(count as i64, increment as i64).round(mode) as u64
+}
+
+/// A time of day rounded, and the days that it carries.
 pub fn round_time(
     time: IsoTime,
     unit: TimeUnit,
@@ -104,13 +109,14 @@ pub fn round_time(
     ensures shows { shown result.1 ≡ true }
 {
     let since = nanosecond_of_day(time);
-    let past = since % units_length(unit, in_larger(unit));
-    let step = units_length(unit, increment);
+    let past = since % unit.span(unit.in_larger());
+    let step = unit.span(increment);
     let count = since - past + rounded(past, step, mode);
+    // The cast loses nothing, which is proved; `try_from` would add a branch that never comes.
     ((count / DAY) as u8, time_of_day(count % DAY))
 }
 
-// The laws of rounding a time of day, each proved.
+/// The laws of rounding a time of day, each proved.
 pub fn laws_hold()
     ensures { (RoundsWithinOne) × ((RoundsTheWhole) × (OneReading)) }
 {}

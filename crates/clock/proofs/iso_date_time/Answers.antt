@@ -7,6 +7,6 @@ pub returns : goal.returns
 returns c =
     record {
       date = c.civil.ensures.0;
-      time = c.time_of_day.ensures.shows;
-      counted = same_pair _ c.args.local (omega (arith, floors, c.civil.ensures.1, c.time_of_day.ensures.second)) c.time_of_day.ensures.nanosecond;
+      time = c.at_second.ensures.shows;
+      counted = same_pair _ c.args.local (omega (arith, floors, c.civil.ensures.1, c.at_second.ensures.second)) c.at_second.ensures.nanosecond;
     }
