@@ -1,3 +1,4 @@
+pub mod Upward
 pub mod Sides
 pub mod Neighbours
 pub mod Listed

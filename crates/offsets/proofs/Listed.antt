@@ -1,153 +1,103 @@
--- The list of possible instants has just the instants that read the local time, ascending; so any answer that is all of them is that list.
-use Rattle.std.proofs.Common.{◌≡◌, ℕ, zero, suc, Bool, true, false, cond, ◌⊎◌, List, [], ◌∷◌, map, ℤ, pos, ◌+ℤ◌, ◌-ℤ◌, ◌≤ℤ◌, ◌<ℤ◌, filter, sym, refl, ap, ◌∙◌, inl, inr, ⊎_elim, arith}
-use Rattle.std.proofs.ByRecursion.{all_kept_by, kept_by_passes}
+-- The list of possible instants begins with the first that reads the local time, goes on with the next, and ends where no more follows; so any answer that is all of them is that list.
+use Rattle.std.proofs.Common.{◌≡◌, ℕ, zero, suc, Bool, true, [], ◌∷◌, map, ℤ, pos, ◌+ℤ◌, ◌-ℤ◌, ◌≤ℤ◌, ◌<ℤ◌, filter, sym, refl, ap, arith}
 use Rattle.std.proofs.lemmas.Int.{ints, by_lt_z}
-use Rattle.std.specs.List.{AllByRecursion as All}
+use Rattle.std.proofs.lemmas.Bool.{false_from_ne_true}
 use Rattle.offsets.proofs.Sides.{only_gap}
 use Rattle.offsets.proofs.Neighbours.{spaced_apart}
 use Rattle.offsets.specs.Offsets.{Bounded, Spaced}
 use Rattle.offsets.specs.Readers.{Reads, Reading, Found}
-use Rattle.offsets.specs.Possible.{seconds, around, reads, possible, at, instants, listed, gapped, first_or, change_over, candidates_at}
+use Rattle.offsets.specs.Possible.{seconds, around, reads, at, instants, listed, gapped, first_or, change_over, candidates_at}
 use Rattle.offsets.specs.declared.Candidate.{Candidate}
 use Rattle.offsets.specs.declared.Candidates.{Candidates}
 use Rattle.offsets.specs.declared.Candidates.TheVariants.{Gap, One, Two}
 
-abbrev pub In : List ℤ → ℤ → Type 0
-In [] t = ⊥
-In (x ∷ xs) t = (t ≡ x) ⊎ In xs t
+-- ---- what a test keeps of n seconds
 
-abbrev pub Ascending : List ℤ → Type 0
-Ascending [] = Unit {0}
-Ascending (x ∷ xs) = All (λ y. x <ℤ y) xs × Ascending xs
+module _ (p : ℤ → Bool) where
+  none_kept : (n : ℕ) (from : ℤ) → ((t : ℤ) → from ≤ℤ t → p t ≡ true → ⊥) → filter p (seconds from n) ≡ []
+  none_kept zero from none = refl
+  none_kept (suc n) from none =
+      rw (false_from_ne_true (p from) (none from (omega (arith, ints)))) (none_kept n (from +ℤ pos 1) (λ t h. none t (omega (arith, ints))))
 
--- ---- two ascending lists with the same elements are equal
+  -- it keeps a first, and then what it keeps of the seconds after a
+  record Begins (n : ℕ) (from a : ℤ) : Type 0 where
+    left : ℕ
+    ends : (a +ℤ pos 1) +ℤ pos left ≡ from +ℤ pos n
+    is : filter p (seconds from n) ≡ a ∷ filter p (seconds (a +ℤ pos 1) left)
 
-pub above : (x t : ℤ) (xs : List ℤ) → All (λ y. x <ℤ y) xs → In xs t → x <ℤ t
-above x t [] hs i = elim i [ ]
-above x t (y ∷ ys) (h, hs) (inl e) = omega (arith, ints)
-above x t (y ∷ ys) (h, hs) (inr i) = above x t ys hs i
+  begins_here : (n : ℕ) (from a : ℤ) → from ≡ a → p a ≡ true → Begins (suc n) from a
+  begins_here n from a e passes = record { left = n; ends = omega (arith, ints); is = rw (e, passes) refl }
 
-heads : (x y : ℤ) (xs ys : List ℤ) → Ascending (x ∷ xs) → Ascending (y ∷ ys) → In (y ∷ ys) x → In (x ∷ xs) y → x ≡ y
-heads x y xs ys a b (inl e) j = e
-heads x y xs ys a b (inr i) (inl e) = sym e
-heads x y xs ys a b (inr i) (inr j) = let p = above y x ys b.0 i in let q = above x y xs a.0 j in omega (arith, ints)
+  begins_later : (n : ℕ) (from a : ℤ) → (p from ≡ true → ⊥) → Begins n (from +ℤ pos 1) a → Begins (suc n) from a
+  begins_later n from a fails w = record { left = w.left; ends = omega (arith, ints); is = rw (false_from_ne_true (p from) fails) w.is }
 
-tail : (x y : ℤ) (xs ys : List ℤ) → x ≡ y → Ascending (x ∷ xs) → ((t : ℤ) → In (x ∷ xs) t → In (y ∷ ys) t) → (t : ℤ) → In xs t → In ys t
-tail x y xs ys e a to t i =
-    let p = above x t xs a.0 i in
-    ⊎_elim (λ f. let n : ⊥ = omega (arith, ints) in elim n [ ]) (λ j. j) (to t (inr i))
+  -- the first second that passes
+  begins : (n : ℕ) (from a : ℤ) → from ≤ℤ a → a <ℤ (from +ℤ pos n) → p a ≡ true → ((t : ℤ) → from ≤ℤ t → p t ≡ true → a ≤ℤ t) → Begins n from a
+  begins zero from a low high passes first = absurd (omega (arith, ints))
+  begins (suc n) from a low high passes first =
+      by_lt_z from a
+      (λ h. begins_later n from a (λ e. omega (arith, ints, first from (omega (arith, ints)) e)) (begins n (from +ℤ pos 1) a (omega (arith, ints)) (omega (arith, ints)) passes (λ t k. first t (omega (arith, ints)))))
+      (λ h. begins_here n from a (omega (arith, ints)) passes)
 
-pub same : (xs ys : List ℤ) → Ascending xs → Ascending ys → ((t : ℤ) → In xs t → In ys t) → ((t : ℤ) → In ys t → In xs t) → xs ≡ ys
-same [] [] a b to from = refl
-same [] (y ∷ ys) a b to from = elim (from y (inl refl)) [ ]
-same (x ∷ xs) [] a b to from = elim (to x (inl refl)) [ ]
-same (x ∷ xs) (y ∷ ys) a b to from =
-    let e = heads x y xs ys a b (to x (inl refl)) (from y (inl refl)) in
-    let rest = same xs ys a.1 b.1 (tail x y xs ys e a to) (tail y x ys xs (sym e) b from) in
-    cc
+  begins_first : (n : ℕ) (from a d : ℤ) → Begins n from a → first_or d (filter p (seconds from n)) ≡ a
+  begins_first n from a d w = ap (first_or d) w.is
 
--- ---- the seconds of a stretch
+-- ---- what the two tests say
 
-seconds_in : (n : ℕ) (from t : ℤ) → from ≤ℤ t → t <ℤ (from +ℤ pos n) → In (seconds from n) t
-seconds_in zero from t low high = omega (arith, ints)
-seconds_in (suc n) from t low high =
-    by_lt_z from t (λ h. inr (seconds_in n (from +ℤ pos 1) t (omega (arith, ints)) (omega (arith, ints)))) (λ h. inl (omega (arith, ints)))
+module _ (f : ℤ → ℤ) (L t : ℤ) where
+  passed : reads f L t ≡ true → Reads f L t
+  passed e = grind (arith, ints)
 
-seconds_above : (n : ℕ) (x from : ℤ) → x <ℤ from → All (λ y. x <ℤ y) (seconds from n)
-seconds_above zero x from h = tt
-seconds_above (suc n) x from h = (h, seconds_above n x (from +ℤ pos 1) (omega (arith, ints)))
+  passes : Reads f L t → reads f L t ≡ true
+  passes e = grind (arith, ints)
 
-seconds_ascend : (n : ℕ) (from : ℤ) → Ascending (seconds from n)
-seconds_ascend zero from = tt
-seconds_ascend (suc n) from = (seconds_above n from (from +ℤ pos 1) (omega (arith, ints)), seconds_ascend n (from +ℤ pos 1))
+  low_passed : gapped f L t ≡ true → (t +ℤ f (t -ℤ pos 1)) ≤ℤ L
+  low_passed e = grind (arith, ints)
 
--- ---- a filter
+  high_passed : gapped f L t ≡ true → L <ℤ (t +ℤ f t)
+  high_passed e = grind (arith, ints)
 
-kept_ascend : (p : ℤ → Bool) (xs : List ℤ) → Ascending xs → Ascending (filter p xs)
-kept_ascend p [] a = tt
-kept_ascend p (x ∷ xs) a =
-    elim (p x) as (λ b. Ascending (cond b (x ∷ filter p xs) (filter p xs))) [ true ↦ (all_kept_by p (λ y. x <ℤ y) xs a.0, kept_ascend p xs a.1) | false ↦ kept_ascend p xs a.1 ]
+  gap_passes : (t +ℤ f (t -ℤ pos 1)) ≤ℤ L → L <ℤ (t +ℤ f t) → gapped f L t ≡ true
+  gap_passes low high = grind (arith, ints)
 
-kept_in : (p : ℤ → Bool) (xs : List ℤ) (t : ℤ) → p t ≡ true → In xs t → In (filter p xs) t
-kept_in p [] t h i = elim i [ ]
-kept_in p (x ∷ xs) t h (inl e) = rw (← e, h) (inl refl)
-kept_in p (x ∷ xs) t h (inr i) =
-    elim (p x) as (λ b. In (cond b (x ∷ filter p xs) (filter p xs)) t) [ true ↦ inr (kept_in p xs t h i) | false ↦ kept_in p xs t h i ]
+-- ---- n seconds that hold all those less than a day from L
 
-pub all_in : (P : ℤ → Type 0) (xs : List ℤ) (t : ℤ) → All P xs → In xs t → P t
-all_in P [] t hs i = elim i [ ]
-all_in P (x ∷ xs) t (h, hs) (inl e) = rw e h
-all_in P (x ∷ xs) t (h, hs) (inr i) = all_in P xs t hs i
+module _ (f : ℤ → ℤ) (bounded : Bounded f) (L : ℤ) (n : ℕ) (from : ℤ) (low : from ≤ℤ (L -ℤ pos 86399)) (high : (L +ℤ pos 86399) <ℤ (from +ℤ pos n)) where
+  read_at : (a : Candidate) → Reading f L a → at f a.second ≡ a
+  read_at a r = ap (λ o. record { second = a.second; offset = o }) (sym r.1)
 
--- ---- the possible instants
+  kept : (c : Candidates) → Found f L c → map (at f) (filter (reads f L) (seconds from n)) ≡ listed c
+  kept (Gap c before after) found = ap (map (at f)) (none_kept (reads f L) n from (λ t h e. found.0 t (passed f L t e)))
+  kept (One a) found =
+      let w : Begins (reads f L) n from a.second = begins (reads f L) n from a.second (omega (arith, ints, bounded a.second)) (omega (arith, ints, bounded a.second)) (passes f L a.second found.0.0) (λ t h e. omega (arith, ints, found.1 t (passed f L t e))) in
+      let z : filter (reads f L) (seconds (a.second +ℤ pos 1) w.left) ≡ [] = none_kept (reads f L) w.left (a.second +ℤ pos 1) (λ t h e. omega (arith, ints, found.1 t (passed f L t e))) in
+      rw (w.is, z, read_at a found.0) refl
+  kept (Two a b) found =
+      let w : Begins (reads f L) n from a.second = begins (reads f L) n from a.second (omega (arith, ints, bounded a.second)) (omega (arith, ints, bounded a.second)) (passes f L a.second found.0.0) (λ t h e. grind (arith, ints, found.3 t (passed f L t e))) in
+      let v : Begins (reads f L) w.left (a.second +ℤ pos 1) b.second = begins (reads f L) w.left (a.second +ℤ pos 1) b.second (omega (arith, ints)) (omega (arith, ints, bounded b.second)) (passes f L b.second found.1.0) (λ t h e. grind (arith, ints, found.3 t (passed f L t e))) in
+      let z : filter (reads f L) (seconds (b.second +ℤ pos 1) v.left) ≡ [] = none_kept (reads f L) v.left (b.second +ℤ pos 1) (λ t h e. grind (arith, ints, found.3 t (passed f L t e))) in
+      rw (w.is, v.is, z, read_at a found.0, read_at b found.1) refl
 
-around_ascend : (L : ℤ) → Ascending (around L)
-unfolding around
-around_ascend L = seconds_ascend 172799 (L -ℤ pos 86399)
-
-around_in : (L t : ℤ) → (L -ℤ pos 86399) ≤ℤ t → t <ℤ ((L -ℤ pos 86399) +ℤ pos 172799) → In (around L) t
-unfolding around
-around_in L t = seconds_in 172799 (L -ℤ pos 86399) t
-
-module _ (f : ℤ → ℤ) (L : ℤ) where
-  pub possible_ascend : Ascending (possible f L)
-  possible_ascend = kept_ascend (reads f L) (around L) (around_ascend L)
-
-  pub possible_reads : (t : ℤ) → In (possible f L) t → Reads f L t
-  possible_reads t i =
-      let e : reads f L t ≡ true = all_in (λ s. reads f L s ≡ true) (possible f L) t (kept_by_passes (reads f L) (around L)) i in
-      grind (arith, ints)
-
-  pub reads_possible : Bounded f → (t : ℤ) → Reads f L t → In (possible f L) t
-  reads_possible bound t here =
-      let b = bound t in
-      let e : reads f L t ≡ true = grind (arith, ints) in
-      kept_in (reads f L) (around L) t e (around_in L t (omega (arith, ints)) (omega (arith, ints)))
-
--- ---- an answer that is all of them
-
-read_at : (f : ℤ → ℤ) (L : ℤ) (a : Candidate) → Reading f L a → at f a.second ≡ a
-read_at f L a r = ap (λ o. record { second = a.second; offset = o }) (sym r.1)
-
-pub found_listed : (f : ℤ → ℤ) → Bounded f → (L : ℤ) (c : Candidates) → Found f L c → instants f L ≡ listed c
-found_listed f bound L (Gap c before after) found =
-    ap (map (at f)) (same (possible f L) [] (possible_ascend f L) tt (λ t i. found.0 t (possible_reads f L t i)) (λ t n. elim n [ ]))
-found_listed f bound L (One a) found =
-    ap (map (at f)) (same (possible f L) (a.second ∷ []) (possible_ascend f L) (tt, tt) (λ t i. inl (found.1 t (possible_reads f L t i))) (λ t i. reads_possible f L bound t (⊎_elim (λ e. rw e found.0.0) (λ n. elim n [ ]) i)))
-    ∙ ap (λ x. x ∷ []) (read_at f L a found.0)
-found_listed f bound L (Two a b) found =
-    ap (map (at f)) (same (possible f L) (a.second ∷ b.second ∷ []) (possible_ascend f L) ((found.2, tt), (tt, tt))
-    (λ t i. ⊎_elim inl (λ e. inr (inl e)) (found.3 t (possible_reads f L t i)))
-    (λ t i. reads_possible f L bound t (⊎_elim (λ e. rw e found.0.0) (⊎_elim (λ e. rw e found.1.0) (λ n. elim n [ ])) i)))
-    ∙ ap (λ x. x ∷ at f b.second ∷ []) (read_at f L a found.0) ∙ ap (λ y. a ∷ y ∷ []) (read_at f L b found.1)
-
--- ---- the gap
-
-only_first : (d c : ℤ) (cs : List ℤ) → In cs c → ((x : ℤ) → In cs x → c ≡ x) → first_or d cs ≡ c
-only_first d c [] i all = elim i [ ]
-only_first d c (x ∷ xs) i all = sym (all x (inl refl))
-
-pub gap_change : (f : ℤ → ℤ) → Bounded f → Spaced f → (L c before after : ℤ) → Found f L (Gap c before after) → change_over f L ≡ c
-gap_change f bound spaced L c before after (none, b, a, low, high) =
-    let p = bound c in
-    let q = bound (c -ℤ pos 1) in
-    let low' : (c +ℤ f (c -ℤ pos 1)) ≤ℤ L = omega (arith, ints) in
-    let high' : L <ℤ (c +ℤ f c) = omega (arith, ints) in
-    let here : gapped f L c ≡ true = grind (arith, ints) in
-    let i = kept_in (gapped f L) (around L) c here (around_in L c (omega (arith, ints)) (omega (arith, ints))) in
-    only_first L c (filter (gapped f L) (around L)) i (λ d j. other d (all_in (λ s. gapped f L s ≡ true) (filter (gapped f L) (around L)) d (kept_by_passes (gapped f L) (around L)) j))
-  where
-    other : (d : ℤ) → gapped f L d ≡ true → c ≡ d
-    other d e =
-        let x : (d +ℤ f (d -ℤ pos 1)) ≤ℤ L = grind (arith, ints) in
-        let y : L <ℤ (d +ℤ f d) = grind (arith, ints) in
-        only_gap f (spaced_apart f spaced) L c (omega (arith, ints)) (omega (arith, ints)) d x y
+  gap_kept : Spaced f → (c before after : ℤ) → Found f L (Gap c before after) → first_or L (filter (gapped f L) (seconds from n)) ≡ c
+  gap_kept spaced c before after found =
+      begins_first (gapped f L) n from c L (begins (gapped f L) n from c (omega (arith, ints, bounded c)) (omega (arith, ints, bounded (c -ℤ pos 1))) (gap_passes f L c (omega (arith, ints)) (omega (arith, ints))) (λ t h e. omega (arith, ints, other t e)))
+    where
+      other : (d : ℤ) → gapped f L d ≡ true → c ≡ d
+      other d e = only_gap f (spaced_apart f spaced) L c (omega (arith, ints)) (omega (arith, ints)) d (low_passed f L d e) (high_passed f L d e)
 
 -- ---- so there is one answer
 
+found_listed : (f : ℤ → ℤ) → Bounded f → (L : ℤ) (c : Candidates) → Found f L c → instants f L ≡ listed c
+unfolding around
+found_listed f bounded L c found = kept f bounded L 172799 (L -ℤ pos 86399) (omega (arith, ints)) (omega (arith, ints)) c found
+
+gap_change : (f : ℤ → ℤ) → Bounded f → Spaced f → (L c before after : ℤ) → Found f L (Gap c before after) → change_over f L ≡ c
+unfolding around
+gap_change f bounded spaced L c before after found = gap_kept f bounded L 172799 (L -ℤ pos 86399) (omega (arith, ints)) (omega (arith, ints)) spaced c before after found
+
 pub determined : (f : ℤ → ℤ) → Bounded f → Spaced f → (L : ℤ) (x : Candidates) → Found f L x → x ≡ candidates_at f L
 unfolding candidates_at
-determined f bound spaced L (Gap c before after) found =
-    rw (found_listed f bound L (Gap c before after) found, gap_change f bound spaced L c before after found, found.1, found.2) refl
-determined f bound spaced L (One a) found = rw (found_listed f bound L (One a) found) refl
-determined f bound spaced L (Two a b) found = rw (found_listed f bound L (Two a b) found) refl
+determined f bounded spaced L (Gap c before after) found =
+    rw (found_listed f bounded L (Gap c before after) found, gap_change f bounded spaced L c before after found, found.1, found.2) refl
+determined f bounded spaced L (One a) found = rw (found_listed f bounded L (One a) found) refl
+determined f bounded spaced L (Two a b) found = rw (found_listed f bounded L (Two a b) found) refl

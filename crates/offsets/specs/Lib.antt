@@ -1,3 +1,4 @@
+pub mod Ends
 pub mod Offsets
 pub mod Readers
 pub mod Possible

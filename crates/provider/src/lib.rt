@@ -7,9 +7,10 @@ ghost use Rattle.provider.specs.Meaning.{Meaning, Each};
 ghost use Rattle.provider.specs.Answer.{offset_answer, CandidatesAnswer, end_number, fault_number, source_of as told_source};
 
 use offsets::Candidates;
+pub use offsets::SPAN;
 
-// Which end refused.
-#[derive(Clone, Copy)]
+/// Which end refused.
+#[derive(Clone, Copy, Debug, PartialEq, Eq)]
 pub enum End {
     Table = 1,
     Rule = 2,
@@ -17,6 +18,7 @@ pub enum End {
 }
 
 impl End {
+    /// The number that an answer prints for the end; `u8::from` would be no plainer, and the cast is how a variant gives its number.
     pub fn number(self) -> u8
         ensures { result ≡ end_number self }
     {
@@ -24,21 +26,22 @@ impl End {
     }
 }
 
-// The end that refused, and the zone number as it was asked there.
-#[derive(Clone, Copy)]
+/// The end that refused, and the zone number as it was asked there.
+#[derive(Clone, Copy, Debug, PartialEq, Eq)]
 pub struct Source {
     pub end: End,
     pub zone: u16,
 }
 
-// The two ways in which a provider refuses a question.
-#[derive(Clone, Copy)]
+/// The two ways in which a provider refuses a question.
+#[derive(Clone, Copy, Debug, PartialEq, Eq)]
 pub enum ProviderFault {
     UnknownZone(Source),
     OutsideSpan(Source),
 }
 
 impl ProviderFault {
+    /// The number of the refusal; it leaves the source out, so it is a property and no conversion.
     pub fn number(self) -> u8
         ensures { result ≡ fault_number self }
     {
@@ -52,15 +55,12 @@ impl ProviderFault {
         ensures { result ≡ told_source self }
     {
         match self {
-            ProviderFault::UnknownZone(source) => source,
-            ProviderFault::OutsideSpan(source) => source,
+            ProviderFault::UnknownZone(source) | ProviderFault::OutsideSpan(source) => source,
         }
     }
 }
 
-// The seconds that a provider may be asked about are those from -SPAN to SPAN.
-pub const SPAN: i64 = 8_640_000_259_200;
-
+/// What knows the zones. A question is a zone's number and a second; a struct of both would be made for one call and taken apart in it.
 pub trait Provider {
     // What each zone number means.
     ghost means: { Self → Meaning };

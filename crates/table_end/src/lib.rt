@@ -2,16 +2,18 @@
 // Neither type is `Drop`, so its bytes are always taken back.
 #![tactic(auto)]
 
-ghost use Rattle.std.specs.Prelude.{◌≡◌};
-ghost use Rattle.zone_table.specs.Layout.{zones as zone_count, rows as row_count, check_answer, Sound, Weighed};
+ghost use Rattle.std.specs.Prelude.{◌≡◌, ◌<◌, ◌≤◌, IfOk, IfErr, unsigned_abs};
+ghost use Rattle.provider.specs.Answer.{offset_answer, CandidatesAnswer};
+ghost use Rattle.zone_table.specs.Layout.{zones as zone_count, zone_offset, check_answer, Sound, Weighed};
+ghost use Rattle.row_search.specs.Held.{held_in};
 ghost use Rattle.table_end.specs.Table.{told};
 ghost use Rattle.table_end.specs.Counts.{weigh_answer};
 ghost use Rattle.table_end.specs.Lawful.{Lawful, told_bounded, told_spaced};
 
-use offsets::Candidates;
+use offsets::{Candidates, SpanSecond};
 use provider::{End, Provider, ProviderFault, SPAN, Source};
-use row_search::{base, candidates_held, offset_held};
-use zone_table::{TableFault, check, count, rows, zones};
+use row_search::ZoneRows;
+use zone_table::{Table, TableFault, check};
 
 pub struct RawTable<'a> {
     bytes: &'a [u8],
@@ -29,7 +31,7 @@ impl<'a> RawTable<'a> {
         RawTable { bytes }
     }
 
-    // Refuses a table whose sizes break the layout, or with a row that breaks a rule, and leaves it raw either way.
+    /// Refuses a table whose sizes break the layout, or with a row that breaks a rule, and leaves it raw either way.
     pub fn check(&self) -> Result<(), TableFault>
         ensures answer { result ≡ check_answer self.now.bytes.now }
         ensures weighed { Weighed self.now.bytes.now result }
@@ -37,7 +39,7 @@ impl<'a> RawTable<'a> {
         check(self.bytes)
     }
 
-    // Moves a table that the check takes on; it cannot refuse.
+    /// Moves a table that the check takes on; it cannot refuse.
     pub fn proof(self) -> ProofedTable<'a>
         requires { Sound self.bytes.now }
         ensures bytes { result.bytes ≡ self.entry.bytes }
@@ -56,18 +58,38 @@ impl<'a> RawTable<'a> {
 }
 
 impl<'a> ProofedTable<'a> {
-    fn zones(&self) -> usize
-        ensures { result ≡ zone_count self.now.bytes.now }
+    fn table(&self) -> Table<'a>
+        ensures bytes { result.bytes ≡ self.now.bytes }
+        ensures sound { Sound result.bytes.now }
     {
-        zones(self.bytes)
+        Table { bytes: self.bytes }
     }
 
-    fn rows(&self) -> usize
-        ensures { result ≡ row_count self.now.bytes.now }
+    // The rows of the zone, or the refusal of both questions: an unknown zone first, then a second outside the span.
+    #[tactic(auto, using(crate::specs::Lawful::some_row, crate::specs::Lawful::rows_inside, zone_table::proofs::Steps::sound_kept))]
+    fn rows_of(&self, zone: u16, second: i64) -> Result<ZoneRows<'a>, ProviderFault>
+        ensures known { IfOk result (λ _. zone < zone_count self.now.bytes.now) }
+        ensures asked { IfOk result (λ _. unsigned_abs second ≤ 8640000259200) }
+        ensures rows { IfOk result (λ rows. held_in rows ≡ zone_offset self.now.bytes.now zone) }
+        ensures offset { IfErr result (λ fault. offset_answer (told self.now.bytes.now zone) second ≡ Err fault) }
+        ensures candidates { IfErr result (λ fault. CandidatesAnswer (told self.now.bytes.now zone) second (Err fault)) }
     {
-        rows(self.bytes)
+        let source = Source {
+            end: End::Table,
+            zone,
+        };
+        let table = self.table();
+        let zone = usize::from(zone);
+        if zone >= table.zones() {
+            return Err(ProviderFault::UnknownZone(source));
+        }
+        if !(-SPAN..=SPAN).contains(&second) {
+            return Err(ProviderFault::OutsideSpan(source));
+        }
+        Ok(ZoneRows::of_zone(table, zone))
     }
 
+    /// One for each type: a trait for both would be longer than the two.
     pub fn take_back(self) -> &'a [u8]
         ensures { result ≡ self.entry.bytes }
     {
@@ -76,14 +98,14 @@ impl<'a> ProofedTable<'a> {
     }
 }
 
-// How much a table holds.
-#[derive(Clone, Copy)]
+/// How much a table holds.
+#[derive(Clone, Copy, Debug, PartialEq, Eq)]
 pub struct Counts {
     pub zones: usize,
     pub rows: usize,
 }
 
-// What a table holds, once the check takes it.
+/// What a table holds, once the check takes it.
 pub fn weigh(bytes: &[u8]) -> Result<Counts, TableFault>
     ensures { result ≡ weigh_answer bytes.now }
 {
@@ -92,12 +114,13 @@ pub fn weigh(bytes: &[u8]) -> Result<Counts, TableFault>
         let _bytes = raw.take_back();
         return Err(fault);
     }
-    let table = raw.proof();
+    let proofed = raw.proof();
+    let table = proofed.table();
     let counts = Counts {
         zones: table.zones(),
         rows: table.rows(),
     };
-    let _bytes = table.take_back();
+    let _bytes = proofed.take_back();
     Ok(counts)
 }
 
@@ -109,34 +132,11 @@ impl<'a> Provider for ProofedTable<'a> {
     ghost spaced = { λ p. told_spaced p.bytes.now p.ok };
 
     fn offset(&self, zone: u16, second: i64) -> Result<i32, ProviderFault> {
-        let source = Source {
-            end: End::Table,
-            zone,
-        };
-        if zone as usize >= zones(self.bytes) {
-            return Err(ProviderFault::UnknownZone(source));
-        }
-        if second < -SPAN || second > SPAN {
-            return Err(ProviderFault::OutsideSpan(source));
-        }
-        let from = base(self.bytes, zone as usize);
-        let last = count(self.bytes, zone as usize) - 1;
-        Ok(offset_held(self.bytes, from, last, second))
+        Ok(self.rows_of(zone, second)?.offset_held(second))
     }
 
     fn candidates(&self, zone: u16, local: i64) -> Result<Candidates, ProviderFault> {
-        let source = Source {
-            end: End::Table,
-            zone,
-        };
-        if zone as usize >= zones(self.bytes) {
-            return Err(ProviderFault::UnknownZone(source));
-        }
-        if local < -SPAN || local > SPAN {
-            return Err(ProviderFault::OutsideSpan(source));
-        }
-        let from = base(self.bytes, zone as usize);
-        let last = count(self.bytes, zone as usize) - 1;
-        Ok(candidates_held(self.bytes, from, last, local))
+        let rows = self.rows_of(zone, local)?;
+        Ok(rows.candidates_held(SpanSecond { second: local }))
     }
 }

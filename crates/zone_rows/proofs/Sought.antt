@@ -1,16 +1,9 @@
 -- The place of a second among the rows, and what is held there.
-use Rattle.std.proofs.Common.{◌≡◌, ℕ, suc, ◌≤◌, Bool, true, false, eqb, ◌⊎◌, ℤ, ◌≤ℤ◌, ◌<ℤ◌, refl, ◌∙◌, subst, inl, inr, ⊎_elim, arith}
-use Rattle.std.proofs.lemmas.Bool.Decides.{nat_tests}
+use Rattle.std.proofs.Common.{◌≡◌, ℕ, suc, ◌≤◌, ◌⊎◌, ℤ, ◌≤ℤ◌, ◌<ℤ◌, refl, ◌∙◌, subst, ⊎_elim}
+use Rattle.std.proofs.Math.Nat.{eq-or-lt_of_le}
 use Rattle.zone_rows.specs.Rows.{held}
 use Rattle.zone_rows.proofs.Lawful.{Ruled, held_last}
 use Rattle.zone_rows.proofs.Walked.{held_cut, held_zero}
-
-same_or_less : (i k : ℕ) → i ≤ k → (i ≡ k) ⊎ (suc i ≤ k)
-same_or_less i k l = by_test (eqb i k) refl
-  where
-    by_test : (b : Bool) → eqb i k ≡ b → (i ≡ k) ⊎ (suc i ≤ k)
-    by_test true e = inl (grind (arith, nat_tests))
-    by_test false e = inr (grind (arith, nat_tests))
 
 module _ (sec off : ℕ → ℤ) where
   here : (i : ℕ) (t : ℤ) → (i ≡ 0) ⊎ (sec i ≤ℤ t) → held sec off i t ≡ off i
@@ -20,4 +13,4 @@ module _ (sec off : ℕ → ℤ) where
   pub held_between : (k i : ℕ) (t : ℤ) → Ruled sec off k → i ≤ k → (i ≡ 0) ⊎ (sec i ≤ℤ t) → (suc i ≤ k → t <ℤ sec (suc i)) → held sec off k t ≡ off i
   held_between k i t r l from before =
       let P : ℕ → Type 0 = λ n. held sec off n t ≡ off i in
-      ⊎_elim (λ e. subst P e (here i t from)) (λ m. held_cut sec off k (suc i) i refl m r t (before m) ∙ here i t from) (same_or_less i k l)
+      ⊎_elim (λ e. subst P e (here i t from)) (λ m. held_cut sec off k (suc i) i refl m r t (before m) ∙ here i t from) (eq-or-lt_of_le l)

@@ -136,11 +136,6 @@ module _ (sec off : ℕ → ℤ) where
       let P : ℕ → Type 0 = λ n. held sec off n t ≡ off n in
       subst P (sym e) (held_first sec off t)
 
-  pub one_zero : (p : ℕ) → p ≡ 0 → (L : ℤ) (x : Candidate) → x.second ≡ L -ℤ off p → x.offset ≡ off p → Found (held sec off p) L (One x)
-  one_zero p e =
-      let P : ℕ → Type 0 = λ n. (L : ℤ) (x : Candidate) → x.second ≡ L -ℤ off n → x.offset ≡ off n → Found (held sec off n) L (One x) in
-      subst P (sym e) one_first
-
   -- ---- rows after a second hold nothing at it
 
   pub rising : (m d : ℕ) → Ruled sec off (d + m) → sec m ≤ℤ sec (d + m)

@@ -1,62 +1,66 @@
 // Rows of a zone, and the rules that they keep.
 #![tactic(auto)]
 
-ghost use Rattle.std.specs.Prelude.{◌≡◌, ◌≤◌, not, pos, ◌-ℤ◌, ◌≤ℤ◌, ◌<ℤ◌, unsigned_abs};
+ghost use Rattle.std.specs.Prelude.{◌≡◌, ◌+◌, pos, ◌+ℤ◌, ◌-ℤ◌, ◌≤ℤ◌, unsigned_abs};
 ghost use Rattle.zone_rows.specs.Rows.{in_day, first_row, later_row, apart};
-ghost use Rattle.offsets.specs.Possible.{eq_z};
 
-pub const SPAN: i64 = 8_640_000_259_200;
+// The rows of a zone stand between -SPAN and SPAN.
+pub use offsets::SPAN;
 
-// The offset from this second on.
-#[derive(Clone, Copy)]
+/// The offset from this second on. No `Candidate`, which has the same fields: that is an instant that reads a local time.
+#[derive(Clone, Copy, Debug, PartialEq, Eq)]
 pub struct Row {
     pub second: i64,
     pub offset: i32,
 }
 
-// The offset is less than a day either way.
-fn daily(row: Row) -> bool
-    ensures { result ≡ in_day row.offset }
-{
-    -86_399 <= row.offset && row.offset <= 86_399
-}
-
-fn differs(last: Row, row: Row) -> bool
-    ensures { result ≡ not (eq_z last.offset row.offset) }
-{
-    last.offset < row.offset || row.offset < last.offset
-}
-
-// A first row begins the span.
-pub fn begins(row: Row) -> bool
-    ensures { result ≡ first_row row.second row.offset }
-{
-    row.second <= -SPAN && -SPAN <= row.second && daily(row)
-}
-
-// A later row rises, stays in the span, and differs in offset.
-pub fn follows(last: Row, row: Row) -> bool
-    ensures { result ≡ later_row last.second last.offset row.second row.offset }
-{
-    last.second < row.second && row.second <= SPAN && differs(last, row) && daily(row)
-}
-
-// The size of the jump between two rows.
-fn jump(last: Row, row: Row) -> u64
-    ensures { (result ≡ unsigned_abs (row.offset -ℤ last.offset)) × (result ≤ 4294967295) }
-{
-    if last.offset < row.offset {
-        (row.offset as i64 - last.offset as i64) as u64
-    } else {
-        (last.offset as i64 - row.offset as i64) as u64
+impl Row {
+    // The offset is less than a day either way.
+    fn is_daily(self) -> bool
+        ensures { result ≡ in_day self.offset }
+    {
+        self.offset.unsigned_abs() < 86_400
     }
-}
 
-// The changes at two neighbouring rows lie farther apart than their jumps' sizes.
-pub fn stands_apart(older: Row, last: Row, row: Row) -> bool
-    requires { last.second ≤ℤ pos 8640000259200 }
-    ensures { result ≡ apart older.offset last.second last.offset row.second row.offset }
-{
-    let sizes = jump(older, last) + jump(last, row);
-    last.second + (sizes as i64) < row.second
+    /// A first row begins the span.
+    pub fn begins(self) -> bool
+        ensures { result ≡ first_row self.second self.offset }
+    {
+        self.second == -SPAN && self.is_daily()
+    }
+
+    /// A later row rises, stays in the span, and differs in offset.
+    pub fn follows(self, last: Row) -> bool
+        ensures { result ≡ later_row last.second last.offset self.second self.offset }
+    {
+        last.second < self.second
+            && self.second <= SPAN
+            && self.is_daily()
+            && last.offset != self.offset
+    }
+
+    // The size of the jump from the row before to this one.
+    fn jump_from(self, last: Row) -> u32
+        ensures { result ≡ unsigned_abs (self.offset -ℤ last.offset) }
+    {
+        self.offset.abs_diff(last.offset)
+    }
+
+    // The last row's second, moved on by the sizes of the jumps to it and to this one.
+    fn reach(self, older: Row, last: Row) -> i64
+        requires { last.second ≤ℤ pos 8640000259200 }
+        ensures { result ≡ last.second +ℤ pos (unsigned_abs (last.offset -ℤ older.offset) + unsigned_abs (self.offset -ℤ last.offset)) }
+    {
+        // The cast loses nothing, which is proved; with `i64::from` of each jump the proof did not close.
+        let jumps = u64::from(last.jump_from(older)) + u64::from(self.jump_from(last));
+        last.second + jumps as i64
+    }
+
+    /// The changes at the last row and at this one lie farther apart than their jumps' sizes.
+    pub fn stands_apart(self, older: Row, last: Row) -> bool
+        requires { last.second ≤ℤ pos 8640000259200 }
+        ensures { result ≡ apart older.offset last.second last.offset self.second self.offset }
+    {
+        self.reach(older, last) < self.second
+    }
 }

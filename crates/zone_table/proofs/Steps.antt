@@ -1,6 +1,8 @@
 -- One step of each definition, in the numbers of the code, and what a table that the check takes keeps.
-use Rattle.std.proofs.Common.{◌≡◌, ℕ, zero, suc, ◌+◌, ◌-◌, ◌*◌, ◌<◌, ◌≤◌, Bool, true, false, cond, ◌&&◌, eqb, leb, ◌⊎◌, List, length, ℤ, Some, None, Err, Option, sym, refl, ap, ◌∙◌, subst, inl, inr, ⊎_elim, add-one, arith}
+use Rattle.std.proofs.Common.{◌≡◌, ℕ, zero, suc, ◌+◌, ◌-◌, ◌*◌, ◌<◌, ◌≤◌, Bool, true, false, cond, leb, List, length, ℤ, Some, None, Err, Option, MatchOption, sym, refl, ap, ◌∙◌, subst, ⊎_elim, add-one, arith}
 use Rattle.std.proofs.lemmas.Bool.Decides.{nat_tests}
+use Rattle.std.proofs.Math.Bool.{and-false}
+use Rattle.std.proofs.Math.Nat.{eq-or-lt_of_le}
 use Rattle.zone_rows.specs.Rows.{keeps, Kept, first_row, later_row, apart}
 use Rattle.zone_table.specs.Layout.{zones, rows, count, start, seconds, offsets, filled, laid, first_of, from_row, failing, keeps_at, breach, breach_answer, taken, Sound}
 use Rattle.zone_table.specs.declared.TableFault.TheVariants.{Sizes}
@@ -48,15 +50,15 @@ module _ (sec off : ℕ → ℤ) where
       let v : r ≡ apart (off i) (sec (suc i)) (off (suc i)) (sec (suc (suc i))) (off (suc (suc i))) = rw (w, x, y, e, f) at k in
       rw g v
 
+-- with which the check proves `keeps_row`
+pub ruleset row_rules = (first_is, stops_is, second_is, third_is)
+
 -- ---- the first that fails
 
-pub failing_none : (p : ℕ → Bool) → failing p 0 ≡ None
+failing_clear : (p : ℕ → Bool) (n : ℕ) → ((k : ℕ) → k < n → p k ≡ true) → failing p n ≡ None
 unfolding failing
-failing_none p = refl
-
-pub failing_more : (p : ℕ → Bool) (n : ℕ) → failing p n ≡ None → p n ≡ true → failing p (n + 1) ≡ None
-unfolding failing
-failing_more p n h e = rw (add-one, h, e) refl
+failing_clear p zero h = refl
+failing_clear p (suc n) h = rw (failing_clear p n (λ k l. h k (omega arith)), h n (omega arith)) refl
 
 failing_at : (p : ℕ → Bool) (n : ℕ) → failing p n ≡ None → p n ≡ false → failing p (suc n) ≡ Some n
 unfolding failing
@@ -67,21 +69,16 @@ unfolding failing
 failing_stays p i n zero h = let z : 0 + n ≡ n = omega arith in rw z h
 failing_stays p i n (suc d) h = let z : suc d + n ≡ suc (d + n) = omega arith in rw (z, failing_stays p i n d h) refl
 
-pub failing_stops : (p : ℕ → Bool) (i n : ℕ) → failing p i ≡ None → p i ≡ false → i < n → failing p n ≡ Some i
+failing_stops : (p : ℕ → Bool) (i n : ℕ) → failing p i ≡ None → p i ≡ false → i < n → failing p n ≡ Some i
 failing_stops p i n h e l =
     let z : (n - suc i) + suc i ≡ n = omega arith in
     let P : ℕ → Type 0 = λ m. failing p m ≡ Some i in
     subst P z (failing_stays p i (suc i) (n - suc i) (failing_at p i h e))
 
-some_below : (o : Option ℕ) (b : Bool) (i n : ℕ) → (o ≡ Some i → i < n) → first_of o (cond b None (Some n)) ≡ Some i → i < suc n
-some_below (Some j) b i n below h = let l = below h in omega arith
-some_below None true i n below h = let z : ◌≡◌ {A = ℕ} 0 1 = cc in absurd (omega arith)
-some_below None false i n below h = let e : n ≡ i = cc in omega arith
-
-pub failing_below : (p : ℕ → Bool) (n i : ℕ) → failing p n ≡ Some i → i < n
-unfolding failing
-failing_below p zero i h = let z : ◌≡◌ {A = ℕ} 0 1 = cc in absurd (omega arith)
-failing_below p (suc n) i h = some_below (failing p n) (p n) i n (failing_below p n i) h
+-- the first place of a range that fails
+pub failing_from : (p : ℕ → Bool) (n : ℕ) (r : Option ℕ) → MatchOption r ((k : ℕ) → 0 ≤ k → k < n → p k ≡ true) (λ i. (0 ≤ i) × (i < n) × (p i ≡ false) × ((k : ℕ) → 0 ≤ k → k < i → p k ≡ true)) → r ≡ failing p n
+failing_from p n None h = sym (failing_clear p n (λ k l. h k (omega arith) l))
+failing_from p n (Some i) (z, l, e, h) = sym (failing_stops p i n (failing_clear p i (λ k m. h k (omega arith) m)) e l)
 
 first_none : (a b : Option ℕ) → first_of a b ≡ None → (a ≡ None) × (b ≡ None)
 first_none None b h = (refl, h)
@@ -91,25 +88,14 @@ cond_none : (b : Bool) (n : ℕ) → cond b None (Some n) ≡ None → b ≡ tru
 cond_none true n h = refl
 cond_none false n h = let z : ◌≡◌ {A = ℕ} 0 1 = cc in absurd (omega arith)
 
-pub last_or : (i n : ℕ) → i < suc n → (i ≡ n) ⊎ (i < n)
-last_or i n l = by_test (eqb i n) refl
-  where
-    by_test : (b : Bool) → eqb i n ≡ b → (i ≡ n) ⊎ (i < n)
-    by_test true e = inl (grind (arith, nat_tests))
-    by_test false e = inr (grind (arith, nat_tests))
-
 pub failing_all : (p : ℕ → Bool) (n : ℕ) → failing p n ≡ None → (i : ℕ) → i < n → p i ≡ true
 unfolding failing
 failing_all p zero h i l = absurd (omega arith)
 failing_all p (suc n) h i l =
     let both = first_none (failing p n) (cond (p n) None (Some n)) h in
-    ⊎_elim (λ e. rw e (cond_none (p n) n both.1)) (λ m. failing_all p n both.0 i m) (last_or i n l)
+    ⊎_elim (λ e. rw e (cond_none (p n) n both.1)) (λ m. failing_all p n both.0 i m) (eq-or-lt_of_le {n = i} {m = n} (omega arith))
 
 -- ---- where the zones' rows begin
-
-pub start_none : (bs : List ℕ) → start bs 0 ≡ 0
-unfolding start
-start_none bs = refl
 
 pub start_more : (bs : List ℕ) (z : ℕ) → start bs (z + 1) ≡ start bs z + count bs z
 unfolding start
@@ -131,26 +117,14 @@ start_within bs z n l =
 
 -- ---- each zone has a row
 
-pub filled_none : (bs : List ℕ) → filled bs 0 ≡ true
-unfolding filled
-filled_none bs = refl
-
-pub filled_more : (bs : List ℕ) (z : ℕ) → filled bs z ≡ true → 0 < count bs z → filled bs (z + 1) ≡ true
-unfolding filled
-filled_more bs z h l = let e : leb 1 (count bs z) ≡ true = grind (arith, nat_tests) in rw (add-one, h, e) refl
-
 filled_stays : (bs : List ℕ) (n d : ℕ) → filled bs n ≡ false → filled bs (d + n) ≡ false
 unfolding filled
 filled_stays bs n zero h = let z : 0 + n ≡ n = omega arith in rw z h
 filled_stays bs n (suc d) h = let z : suc d + n ≡ suc (d + n) = omega arith in rw (z, filled_stays bs n d h) refl
 
-and_false : (b : Bool) → (b && false) ≡ false
-and_false true = refl
-and_false false = refl
-
 filled_at : (bs : List ℕ) (z : ℕ) → count bs z ≡ 0 → filled bs (suc z) ≡ false
 unfolding filled
-filled_at bs z e = let f : leb 1 (count bs z) ≡ false = grind (arith, nat_tests) in rw f (and_false (filled bs z))
+filled_at bs z e = let f : leb 1 (count bs z) ≡ false = grind (arith, nat_tests) in rw f (and-false (filled bs z))
 
 pub filled_stops : (bs : List ℕ) (z n : ℕ) → count bs z ≡ 0 → z < n → filled bs n ≡ false
 filled_stops bs z n e l =
@@ -206,7 +180,7 @@ unfolding breach
 breach_all bs zero h z l = absurd (omega arith)
 breach_all bs (suc n) h z l =
     let both = first_none (breach bs n) (from_row (start bs n) (failing (keeps_at bs (start bs n)) (count bs n))) h in
-    ⊎_elim (λ e. rw e (from_none (start bs n) (failing (keeps_at bs (start bs n)) (count bs n)) both.1)) (λ m. breach_all bs n both.0 z m) (last_or z n l)
+    ⊎_elim (λ e. rw e (from_none (start bs n) (failing (keeps_at bs (start bs n)) (count bs n)) both.1)) (λ m. breach_all bs n both.0 z m) (eq-or-lt_of_le {n = z} {m = n} (omega arith))
 
 -- ---- a table that the check takes
 
@@ -227,6 +201,13 @@ pub record Laid (bs : List ℕ) : Type 0 where
 pub laid_facts : (bs : List ℕ) → laid bs ≡ true → Laid bs
 laid_facts bs h =
     record { some = grind (arith, nat_tests); few = grind (arith, nat_tests); most = grind (arith, nat_tests); size = grind (arith, nat_tests); each = grind (arith, nat_tests); sum = grind (arith, nat_tests) }
+
+-- the rows of a zone stand before the end of all rows
+pub zone_inside : (bs : List ℕ) (z : ℕ) → laid bs ≡ true → z < zones bs → start bs z + count bs z ≤ rows bs
+zone_inside bs z h l = let w = start_within bs z (zones bs) l in let s = (laid_facts bs h).sum in omega arith
+
+-- with which the check proves `first_breach`
+pub ruleset breach_steps = (breach_none, breach_more, breach_stops, zone_inside)
 
 pub sound_laid : (bs : List ℕ) → Sound bs → Laid bs
 sound_laid bs h = laid_facts bs (sound_both (laid bs) (breach bs (zones bs)) h).0

@@ -1,8 +1,9 @@
 -- What the check answers, in the subject's words.
 use Rattle.std.proofs.Common.{◌≡◌, ℕ, zero, suc, ◌+◌, ◌<◌, Bool, true, false, cond, List, Some, None, Err, Option, sym, refl, ap, ◌∙◌, subst, ⊎_elim, arith}
+use Rattle.std.proofs.Math.Nat.{eq-or-lt_of_le}
 use Rattle.zone_table.specs.Layout.{zones, count, start, laid, first_of, from_row, failing, keeps_at, breach, breach_answer, check_answer, First, Weighed}
 use Rattle.zone_table.specs.declared.TableFault.TheVariants.{Sizes}
-use Rattle.zone_table.proofs.Steps.{failing_all, breach_all, start_within, last_or}
+use Rattle.zone_table.proofs.Steps.{failing_all, breach_all, start_within}
 
 record Failed (p : ℕ → Bool) (n i : ℕ) : Type 0 where
   below : i < n
@@ -31,7 +32,7 @@ module _ (bs : List ℕ) where
       let k = f.known in
       let l = f.inside in
       let a = f.at in
-      record { zone = f.zone; place = f.place; known = omega arith; inside = f.inside; at = f.at; broken = f.broken; before = λ y j m i b. ⊎_elim (λ e. let w = start_within bs f.zone y (omega arith) in absurd (omega arith)) (λ o. f.before y j o i b) (last_or y n m) }
+      record { zone = f.zone; place = f.place; known = omega arith; inside = f.inside; at = f.at; broken = f.broken; before = λ y j m i b. ⊎_elim (λ e. let w = start_within bs f.zone y (omega arith) in absurd (omega arith)) (λ o. f.before y j o i b) (eq-or-lt_of_le {n = y} {m = n} (omega arith)) }
 
   first_step : (n g : ℕ) (o q : Option ℕ) → breach bs n ≡ o → failing (keeps_at bs (start bs n)) (count bs n) ≡ q → (breach bs n ≡ Some g → First bs n g) → first_of o (from_row (start bs n) q) ≡ Some g → First bs (suc n) g
   first_step n g (Some x) q e f old h = first_more n g (old (e ∙ h))
@@ -39,7 +40,7 @@ module _ (bs : List ℕ) where
   first_step n g None (Some i) e f old h =
       let k : start bs n + i ≡ g = cc in
       let d = failing_some (keeps_at bs (start bs n)) (count bs n) i f in
-      record { zone = n; place = i; known = omega arith; inside = d.below; at = sym k; broken = d.fails; before = λ y j m l b. ⊎_elim (λ z. same d y j z k b) (λ o. failing_all (keeps_at bs (start bs y)) (count bs y) (breach_all bs n e y o) j l) (last_or y n m) }
+      record { zone = n; place = i; known = omega arith; inside = d.below; at = sym k; broken = d.fails; before = λ y j m l b. ⊎_elim (λ z. same d y j z k b) (λ o. failing_all (keeps_at bs (start bs y)) (count bs y) (breach_all bs n e y o) j l) (eq-or-lt_of_le {n = y} {m = n} (omega arith)) }
     where
       same : Failed (keeps_at bs (start bs n)) (count bs n) i → (y j : ℕ) → y ≡ n → start bs n + i ≡ g → start bs y + j < g → keeps_at bs (start bs y) j ≡ true
       same d y j z k b =

@@ -37,11 +37,19 @@ seconds bs b i = second_at bs (b + i)
 abbrev pub offsets : List ℕ → ℕ → ℕ → ℤ
 offsets bs b i = offset_at bs (b + i)
 
+-- the offset that the rows from row b on hold at each second, as far as place k
+abbrev pub rows_offset : List ℕ → ℕ → ℕ → ℤ → ℤ
+rows_offset bs b k = held (seconds bs b) (offsets bs b) k
+
 -- What a zone means: the offset that its rows hold at each second.
 abbrev pub zone_offset : List ℕ → ℕ → ℤ → ℤ
 zone_offset bs z = held (seconds bs (start bs z)) (offsets bs (start bs z)) (count bs z - 1)
 
 -- ---- the layout
+
+-- the bytes are as many as the numbers of zones and rows tell
+abbrev pub Sized : List ℕ → Type 0
+Sized bs = length bs ≡ 4 + zones bs * 2 + rows bs * 12
 
 -- each of the first n zones has a row
 unfoldable pub filled : List ℕ → ℕ → Bool

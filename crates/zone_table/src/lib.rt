@@ -1,15 +1,17 @@
 // The check of a table's bytes: the layout first, then each row.
 #![tactic(auto)]
 
-ghost use Rattle.std.specs.Prelude.{◌≡◌, ◌+◌, ◌*◌, ◌<◌, ◌≤◌, true, ◌&&◌, length, ◌==◌};
-ghost use Rattle.zone_table.specs.Layout.{zones as zone_count, rows as row_count, count as count_of, start as start_of_lem, second_at, offset_at, filled, laid, failing, keeps_at, breach, check_answer, Weighed, number as number_of_lem};
+ghost use Rattle.std.specs.Prelude.{◌≡◌, ℕ, ◌+◌, ◌*◌, ◌<◌, ◌≤◌, true, ◌&&◌, ◌==◌, List, [], length, slice_index_or, nat_le, sum_by, IfSome, MatchOption};
+ghost use Rattle.std.specs.List.{list_all};
+ghost use Rattle.zone_table.specs.Bytes.{le16, le32, le64};
+ghost use Rattle.zone_table.specs.Layout.{zones as zone_count, rows as row_count, count as count_of, start as start_of, second_at, offset_at, Sized, filled, laid, failing, keeps_at, breach, breach_answer, check_answer, Weighed, number as number_of};
 
 mod bytes;
 
-use crate::bytes::{read_i32, read_i64, read_u16};
-use zone_rows::{Row, begins, follows, stands_apart};
+use crate::bytes::{arrays_at, u16_at, u16_of};
+use zone_rows::Row;
 
-#[derive(Clone, Copy)]
+#[derive(Clone, Copy, Debug, PartialEq, Eq)]
 pub enum TableFault {
     // The sizes break the layout.
     Sizes,
@@ -18,8 +20,9 @@ pub enum TableFault {
 }
 
 impl TableFault {
+    /// The number of the refusal; it leaves the row out, so it is a property and no conversion.
     pub fn number(self) -> u16
-        ensures { result ≡ number_of_lem self }
+        ensures { result ≡ number_of self }
     {
         match self {
             TableFault::Sizes => 12,
@@ -28,133 +31,201 @@ impl TableFault {
     }
 }
 
+/// The numbers of zones, of all rows, and of a zone's rows stand at places of their own; that each is below 65,536 is what sums of them
+/// need, and a result `u16` would be converted at each call.
 pub fn zones(bytes: &[u8]) -> usize
     requires { 4 ≤ length bytes.now }
     ensures { (result ≡ zone_count bytes.now) × (result < 65536) }
 {
-    read_u16(bytes, 0) as usize
+    usize::from(u16_at(bytes, 0))
 }
 
 pub fn rows(bytes: &[u8]) -> usize
     requires { 4 ≤ length bytes.now }
     ensures { (result ≡ row_count bytes.now) × (result < 65536) }
 {
-    read_u16(bytes, 2) as usize
+    usize::from(u16_at(bytes, 2))
 }
 
 pub fn count(bytes: &[u8], zone: usize) -> usize
     requires { 6 + zone * 2 ≤ length bytes.now }
     ensures { (result ≡ count_of bytes.now zone) × (result < 65536) }
 {
-    read_u16(bytes, 4 + zone * 2) as usize
+    usize::from(u16_at(bytes, 4 + zone * 2))
 }
 
-// Row g over all rows.
-pub fn row(bytes: &[u8], g: usize) -> Row
-    requires size { length bytes.now ≡ 4 + zone_count bytes.now * 2 + row_count bytes.now * 12 }
-    requires inside { g < row_count bytes.now }
-    ensures { (result.second ≡ second_at bytes.now g) × (result.offset ≡ offset_at bytes.now g) }
+// The row counts of the first so many zones.
+#[tactic(auto, using(crate::proofs::Arrays::le16_array))]
+fn counts(bytes: &[u8], zones: usize) -> &[[u8; 2]]
+    requires { 4 + zones * 2 ≤ length bytes.now }
+    ensures len { length result.now ≡ zones }
+    ensures each { (zone : ℕ) → zone < zones → le16 (slice_index_or result.now zone []) 0 ≡ count_of bytes.now zone }
 {
-    let base = 4 + zones(bytes) * 2;
-    Row {
-        second: read_i64(bytes, base + g * 8),
-        offset: read_i32(bytes, base + rows(bytes) * 8 + g * 4),
-    }
+    arrays_at(bytes, 4, zones)
 }
 
-// The row at this place of a zone whose rows begin at base keeps the rules.
-fn keeps_row(bytes: &[u8], base: usize, place: usize) -> bool
-    requires size { length bytes.now ≡ 4 + zone_count bytes.now * 2 + row_count bytes.now * 12 }
-    requires inside { base + place < row_count bytes.now }
-    ensures { result ≡ keeps_at bytes.now base place }
+// The sum of these counts.
+fn total(counts: &[[u8; 2]]) -> usize
+    requires { length counts.now ≤ 64 }
+    ensures { result ≡ sum_by (λ (count : List ℕ). le16 count 0) counts.now }
 {
-    let this = row(bytes, base + place);
-    if place == 0 {
-        return begins(this);
-    }
-    let last = row(bytes, base + (place - 1));
-    if !follows(last, this) {
-        return false;
-    }
-    if place == 1 {
-        return true;
-    }
-    let older = row(bytes, base + (place - 2));
-    stands_apart(older, last, this)
+    counts.iter().map(|count| usize::from(u16_of(*count))).sum()
 }
 
-// Each zone has a row, and all rows are told of.
-fn fills(bytes: &[u8], zones: usize, rows: usize) -> bool
-    requires size { 4 + zones * 2 ≤ length bytes.now }
-    requires few { zones ≤ 64 }
-    ensures { result ≡ (filled bytes.now zones && start_of_lem bytes.now zones == rows) }
+// None of these counts is zero.
+fn all_nonzero(counts: &[[u8; 2]]) -> bool
+    ensures { result ≡ list_all (λ (count : List ℕ). nat_le 1 (le16 count 0)) counts.now }
 {
-    let mut sum = 0usize;
-    for zone in 0..zones {
-        let more = count(bytes, zone);
-        if more == 0 {
-            return false;
+    counts.iter().all(|count| u16_of(*count) >= 1)
+}
+
+/// How many rows stand before those of the zone.
+#[tactic(auto, using(crate::proofs::Sums::sum_all))]
+pub fn start(bytes: &[u8], zone: usize) -> usize
+    requires size { 4 + zone * 2 ≤ length bytes.now }
+    requires few { zone ≤ 64 }
+    ensures { result ≡ start_of bytes.now zone }
+{
+    total(counts(bytes, zone))
+}
+
+/// A table's bytes, as many as its numbers of zones and rows tell.
+#[derive(Clone, Copy, Debug, PartialEq, Eq)]
+pub struct Table<'a> {
+    pub bytes: &'a [u8],
+    ghost sized: { Sized bytes.now },
+}
+
+impl<'a> Table<'a> {
+    /// The table in these bytes, if there are so many.
+    pub fn new(bytes: &'a [u8]) -> Option<Table<'a>>
+        ensures { MatchOption result (¬ Sized bytes.now) (λ table. table.bytes ≡ bytes.entry) }
+    {
+        if bytes.len() < 4 || bytes.len() != 4 + zones(bytes) * 2 + rows(bytes) * 12 {
+            return None;
         }
-        sum += more;
+        Some(Table { bytes })
     }
-    sum == rows
-}
 
-// The bytes keep the layout.
-fn sizes(bytes: &[u8]) -> bool
-    ensures { result ≡ laid bytes.now }
-{
-    if bytes.len() < 4 {
-        return false;
+    pub fn zones(self) -> usize
+        ensures { result ≡ zone_count self.entry.bytes.now }
+    {
+        zones(self.bytes)
     }
-    let z = zones(bytes);
-    let n = rows(bytes);
-    if z < 1 || z > 64 || n > 4096 || bytes.len() != 4 + z * 2 + n * 12 {
-        return false;
-    }
-    fills(bytes, z, n)
-}
 
-// The first place of a zone whose row breaks a rule.
-fn zone_breach(bytes: &[u8], base: usize, rows: usize) -> Option<usize>
-    requires size { length bytes.now ≡ 4 + zone_count bytes.now * 2 + row_count bytes.now * 12 }
-    requires inside { base + rows ≤ row_count bytes.now }
-    ensures { result ≡ failing (keeps_at bytes.now base) rows }
-{
-    for place in 0..rows {
-        if !keeps_row(bytes, base, place) {
-            return Some(place);
+    pub fn rows(self) -> usize
+        ensures { result ≡ row_count self.entry.bytes.now }
+    {
+        rows(self.bytes)
+    }
+
+    /// The seconds of all rows; these and the offsets are two slices, as the lent bytes have them.
+    #[tactic(auto, using(crate::proofs::Arrays::le64_array))]
+    pub fn seconds(self) -> &'a [[u8; 8]]
+        ensures len { length result.now ≡ row_count self.entry.bytes.now }
+        ensures each { (g : ℕ) → g < row_count self.entry.bytes.now → le64 (slice_index_or result.now g []) 0 ≡ second_at self.entry.bytes.now g }
+    {
+        arrays_at(self.bytes, 4 + self.zones() * 2, self.rows())
+    }
+
+    /// The offsets of all rows.
+    #[tactic(auto, using(crate::proofs::Arrays::le32_array))]
+    pub fn offsets(self) -> &'a [[u8; 4]]
+        ensures len { length result.now ≡ row_count self.entry.bytes.now }
+        ensures each { (g : ℕ) → g < row_count self.entry.bytes.now → le32 (slice_index_or result.now g []) 0 ≡ offset_at self.entry.bytes.now g }
+    {
+        arrays_at(
+            self.bytes,
+            4 + self.zones() * 2 + self.rows() * 8,
+            self.rows(),
+        )
+    }
+
+    /// Row g over all rows.
+    #[tactic(auto, using(crate::proofs::Arrays::le32_first, crate::proofs::Arrays::le64_first))]
+    pub fn row(self, g: usize) -> Row
+        requires { g < row_count self.bytes.now }
+        ensures { (result.second ≡ second_at self.entry.bytes.now g) × (result.offset ≡ offset_at self.entry.bytes.now g) }
+    {
+        Row {
+            second: i64::from_le_bytes(self.seconds()[g]),
+            offset: i32::from_le_bytes(self.offsets()[g]),
         }
     }
-    None
-}
 
-// The first row that breaks a rule.
-fn first_breach(bytes: &[u8]) -> Option<usize>
-    requires { laid bytes.now ≡ true }
-    ensures { result ≡ breach bytes.now (zone_count bytes.now) }
-{
-    let all = zones(bytes);
-    let mut base = 0usize;
-    for zone in 0..all {
-        let more = count(bytes, zone);
-        if let Some(place) = zone_breach(bytes, base, more) {
-            return Some(base + place);
-        }
-        base += more;
+    // Each zone has a row, and all rows are told of.
+    #[tactic(auto, using(crate::proofs::Sums::sum_all, crate::proofs::Sums::all_filled))]
+    fn is_filled(self) -> bool
+        requires { zone_count self.bytes.now ≤ 64 }
+        ensures { result ≡ (filled self.entry.bytes.now (zone_count self.entry.bytes.now) && start_of self.entry.bytes.now (zone_count self.entry.bytes.now) == row_count self.entry.bytes.now) }
+    {
+        let counts = counts(self.bytes, self.zones());
+        all_nonzero(counts) && total(counts) == self.rows()
     }
-    None
+
+    // The bytes keep the layout.
+    fn is_laid(self) -> bool
+        ensures { result ≡ laid self.entry.bytes.now }
+    {
+        (1..=64).contains(&self.zones()) && self.rows() <= 4096 && self.is_filled()
+    }
+
+    // The row at this place of a zone whose rows begin at base keeps the rules.
+    #[tactic(auto, using(crate::proofs::Steps::row_rules))]
+    fn keeps_row(self, base: usize, place: usize) -> bool
+        requires { base + place < row_count self.bytes.now }
+        ensures { result ≡ keeps_at self.entry.bytes.now base place }
+    {
+        let this = self.row(base + place);
+        if place == 0 {
+            return this.begins();
+        }
+        let last = self.row(base + (place - 1));
+        this.follows(last) && (place == 1 || this.stands_apart(self.row(base + (place - 2)), last))
+    }
+
+    // The first place of a zone whose row breaks a rule.
+    fn zone_breach(self, base: usize, rows: usize) -> Option<usize>
+        requires { base + rows ≤ row_count self.bytes.now }
+        ensures first { result ≡ failing (keeps_at self.entry.bytes.now base) rows }
+        ensures inside { IfSome result (λ place. place < rows) }
+    {
+        (0..rows).find(|place| !self.keeps_row(base, *place))
+    }
+
+    // The first row that breaks a rule.
+    #[tactic(auto, using(crate::proofs::Steps::breach_steps))]
+    fn first_breach(self) -> Option<usize>
+        requires { laid self.bytes.now ≡ true }
+        ensures { result ≡ breach self.entry.bytes.now (zone_count self.entry.bytes.now) }
+    {
+        for zone in 0..self.zones() {
+            let base = start(self.bytes, zone);
+            if let Some(place) = self.zone_breach(base, count(self.bytes, zone)) {
+                return Some(base + place);
+            }
+        }
+        None
+    }
+
+    // Refuses the first row that breaks a rule.
+    fn check_rows(self) -> Result<(), TableFault>
+        requires { laid self.bytes.now ≡ true }
+        ensures { result ≡ breach_answer (breach self.entry.bytes.now (zone_count self.entry.bytes.now)) }
+    {
+        match self.first_breach() {
+            Some(row) => Err(TableFault::BrokenRow(row)),
+            None => Ok(()),
+        }
+    }
 }
 
 pub fn check(bytes: &[u8]) -> Result<(), TableFault>
     ensures answer { result ≡ check_answer bytes.now }
     ensures weighed { Weighed bytes.now result }
 {
-    if !sizes(bytes) {
-        return Err(TableFault::Sizes);
+    match Table::new(bytes) {
+        Some(table) if table.is_laid() => table.check_rows(),
+        _ => Err(TableFault::Sizes),
     }
-    if let Some(row) = first_breach(bytes) {
-        return Err(TableFault::BrokenRow(row));
-    }
-    Ok(())
 }
