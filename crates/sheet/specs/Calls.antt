@@ -60,8 +60,8 @@ offset_timed None t = true
 offset_timed (Some o) (Some t) = true
 offset_timed (Some o) None = false
 
--- Each check is made where those before it passed.
-abbrev pub then_checked : Result Unit ZonedFault → Result Unit ZonedFault → Result Unit ZonedFault
+-- What comes next is done where the checks before it passed.
+abbrev pub then_checked : {A : Type 0} → Result Unit ZonedFault → Result A ZonedFault → Result A ZonedFault
 then_checked (Ok u) next = next
 then_checked (Err e) next = Err e
 
@@ -83,13 +83,9 @@ abbrev pub made_from : TimeZone → Result EpochNanosecondsAndOffset ZonedFault 
 made_from z (Ok e) = made_at z e
 made_from z (Err e) = Err e
 
-abbrev pub after_entry : Result Unit ZonedFault → Result Arrival ZonedFault → Result Arrival ZonedFault
-after_entry (Ok u) next = next
-after_entry (Err e) next = Err e
-
 -- The arrival that a request brings about.
 abbrev pub arrived : Meaning → Request → Result Arrival ZonedFault
-arrived m q = after_entry (entry m q) (made_from q.zone (interpreted m q))
+arrived m q = then_checked (entry m q) (made_from q.zone (interpreted m q))
 
 abbrev pub set_answer : Meaning → ℕ → Request → Result Arrival Refusal
 set_answer m b q = at_berth b (cond (is_berth b) (lifted (arrived m q)) (Err BerthNumber))

@@ -1,5 +1,5 @@
 -- The sheet's refusals, case by case, by number, layer and source.
-use Rattle.std.specs.Prelude.{ℕ, Some, None, Ok, Err, Option, Result}
+use Rattle.std.specs.Prelude.{ℕ, List, Some, None, Ok, Err, codes, Option, Result}
 use Rattle.provider.specs.Answer.{source_of}
 use Rattle.provider.specs.declared.Source.{Source}
 use Rattle.zoned.specs.Faults.{zoned_number}
@@ -39,6 +39,13 @@ abbrev pub sheet_layer : SheetFault → Layer
 sheet_layer BerthNumber = BySheet
 sheet_layer Empty = BySheet
 sheet_layer (Zoned e) = zoned_layer e
+
+-- The word for a layer.
+abbrev pub layer_word : Layer → List ℕ
+layer_word ByProvider = codes "provider"
+layer_word ByZone = codes "zone"
+layer_word ByZoned = codes "zoned"
+layer_word BySheet = codes "sheet"
 
 abbrev pub zone_source : ZoneFault → Option Source
 zone_source (Provider e) = Some (source_of e)

@@ -4,8 +4,8 @@ ghost use Rattle.clock.specs.Instants.{valid_epoch};
 ghost use Rattle.time_zone.specs.Right.{OffsetIs};
 ghost use Rattle.sheet.specs.Calls.{blank, set_answer, stored, clear_answer, cleared, ReadAnswer, all_in_range, local_of};
 
-use crate::arrive::arrive_at;
-use crate::berths::{Berths, is_berth};
+use crate::arrive::SetCall;
+use crate::berths::{Berth, Berths};
 use crate::{Arrival, Reading, Refusal, SheetFault};
 use clock::{Timespec, iso_date_time};
 use provider::Provider;
@@ -25,13 +25,13 @@ fn local_of(arrival: Arrival) -> Timespec
     ensures nanos { result.nanos < 1000000000 }
 {
     Timespec {
-        seconds: arrival.instant.seconds + arrival.offset as i64,
+        seconds: arrival.instant.seconds + i64::from(arrival.offset),
         nanos: arrival.instant.nanos,
     }
 }
 
 impl<P: Provider> Sheet<P> {
-    // An empty sheet over a provider, which it keeps for its life.
+    /// An empty sheet over a provider, which it keeps for its life.
     pub fn open(provider: P) -> Sheet<P>
         ensures keeps { result.provider ≡ provider }
         ensures empty { result.berths.rows ≡ blank }
@@ -42,7 +42,7 @@ impl<P: Provider> Sheet<P> {
         }
     }
 
-    // Ends the sheet and hands its provider back.
+    /// Ends the sheet and hands its provider back.
     pub fn close(self) -> P
         ensures { result ≡ self.provider }
     {
@@ -53,55 +53,44 @@ impl<P: Provider> Sheet<P> {
         provider
     }
 
-    // Puts the arrival that a request brings about into the berth.
+    /// Puts the arrival that a request brings about into the berth.
+    #[tactic(auto, using(crate::proofs::Ranges::put_ranged, crate::proofs::Rights::answer_ranged, crate::proofs::Rights::answer_right))]
     pub fn set(&mut self, berth: u8, request: Request) -> Result<Arrival, Refusal>
         ensures answer { result ≡ set_answer (P.means self.old.provider) berth request }
         ensures after { self.new.berths.rows ≡ stored self.old.berths.rows berth result }
         ensures right { IfOk result (λ a. OffsetIs (P.means self.old.provider) a.zone a.instant.seconds a.offset) }
         ensures keeps { self.new.provider ≡ self.old.provider }
     {
-        match arrive_at(&self.provider, berth, request) {
-            Ok(arrival) => {
-                self.berths.put(berth, Some(arrival));
-                Ok(arrival)
-            }
-            Err(fault) => Err(Refusal { berth, fault }),
-        }
+        let place = Berth::try_from(berth)?;
+        let provider = &self.provider;
+        let arrival = SetCall { provider, request }.arrival_at(berth)?;
+        self.berths.put(place, Some(arrival));
+        Ok(arrival)
     }
 
-    // Empties the berth, and tells whether it was filled.
+    /// Empties the berth, and tells whether it was filled.
+    #[tactic(auto, using(crate::proofs::Ranges::put_ranged))]
     pub fn clear(&mut self, berth: u8) -> Result<bool, Refusal>
         ensures answer { result ≡ clear_answer self.old.berths.rows berth }
         ensures after { self.new.berths.rows ≡ cleared self.old.berths.rows berth }
         ensures keeps { self.new.provider ≡ self.old.provider }
     {
-        if !is_berth(berth) {
-            return Err(Refusal {
-                berth,
-                fault: SheetFault::BerthNumber,
-            });
-        }
-        let filled = self.berths.at(berth).is_some();
-        self.berths.put(berth, None);
+        let place = Berth::try_from(berth)?;
+        let filled = self.berths.at(place).is_some();
+        self.berths.put(place, None);
         Ok(filled)
     }
 
-    // The arrival in the berth, and the local date-time that it reads.
+    /// The arrival in the berth, and the local date-time that it reads.
+    #[tactic(auto, using(crate::proofs::Ranges::held_ranged))]
     pub fn read(&self, berth: u8) -> Result<Reading, Refusal>
         ensures { ReadAnswer self.now.berths.rows berth result }
     {
-        if !is_berth(berth) {
-            return Err(Refusal {
-                berth,
-                fault: SheetFault::BerthNumber,
-            });
-        }
-        let Some(arrival) = self.berths.at(berth) else {
-            return Err(Refusal {
-                berth,
-                fault: SheetFault::Empty,
-            });
-        };
+        let place = Berth::try_from(berth)?;
+        let arrival = self.berths.at(place).ok_or(Refusal {
+            berth,
+            fault: SheetFault::Empty,
+        })?;
         Ok(Reading {
             arrival,
             local: iso_date_time(local_of(arrival)),

@@ -1,11 +1,13 @@
 -- Every instant that is found or chosen comes with its zone's own offset there.
-use Rattle.std.proofs.Common.{◌≡◌, ℕ, Bool, true, false, cond, List, [], ◌∷◌, map, ℤ, pos, ◌+ℤ◌, ◌-ℤ◌, Ok, Err, Result, refl}
+use Rattle.std.proofs.Common.{◌≡◌, ℕ, Bool, cond, List, [], ◌∷◌, map, ℤ, pos, ◌+ℤ◌, ◌-ℤ◌, Ok, Err, Result, refl}
+use Rattle.std.proofs.lemmas.Bool.{cond_both}
 use Rattle.offsets.specs.Possible.{possible as instants_of, at, answer_of, candidates_at}
 use Rattle.offsets.specs.declared.Candidate.{Candidate}
 use Rattle.offsets.specs.declared.Candidates.{Candidates}
 use Rattle.offsets.specs.declared.Candidates.TheVariants.{Gap, One, Two}
 use Rattle.provider.specs.Meaning.{Zone, unknown, known, Meaning}
 use Rattle.provider.specs.Answer.{in_span, candidates_answer}
+use Rattle.provider.specs.declared.Source.{Source}
 use Rattle.provider.specs.declared.ProviderFault.TheVariants.{OutsideSpan}
 use Rattle.time_zone.specs.Faults.{carried}
 use Rattle.time_zone.specs.Instants.{day_ranged, day_within, candidates_in, all_valid, ranged, possible, first_of, last_of, moved, of_two, of_none, disambiguated, disambiguated_in, resolved, started, start_of_day}
@@ -17,41 +19,27 @@ use Rattle.time_zone.specs.declared.Disambiguation.TheVariants.{Compatible, Earl
 use Rattle.time_zone.specs.declared.ZoneFault.{ZoneFault}
 use Rattle.time_zone.specs.declared.ZoneFault.TheVariants.{Range}
 
--- ---- what the offsets tell
-
-abbrev AllTold : (ℤ → ℤ) → Candidates → Type 0
-AllTold f (Gap c before after) = after ≡ f c
-AllTold f (One a) = a.offset ≡ f a.second
-AllTold f (Two a b) = (a.offset ≡ f a.second) × (b.offset ≡ f b.second)
-
-told_by : (f : ℤ → ℤ) (L : ℤ) (ts : List ℤ) → AllTold f (answer_of f L (map (at f) ts))
-told_by f L [] = refl
-told_by f L (t ∷ []) = refl
-told_by f L (t ∷ u ∷ ts) = (refl, refl)
-
-told : (f : ℤ → ℤ) (L : ℤ) → AllTold f (candidates_at f L)
-unfolding candidates_at
-told f L = told_by f L (instants_of f L)
-
 module _ (m : Meaning) where
   -- ---- possible instants
 
+  -- of a named zone's offsets
+  module _ (n : ℕ) (o : Source) (f : ℤ → ℤ) (is : m n ≡ known o f) (L : ℤ) where
+    listed_right : (ts : List ℤ) → AllRight m (Named n) (answer_of f L (map (at f) ts))
+    listed_right [] = rw is refl
+    listed_right (t ∷ []) = rw is refl
+    listed_right (t ∷ u ∷ ts) = rw is (refl, refl)
+
+    told_right : AllRight m (Named n) (candidates_at f L)
+    unfolding candidates_at
+    told_right = listed_right (instants_of f L)
+
   known_right : (n : ℕ) (z : Zone) → m n ≡ z → (L : ℤ) → GrantedAll m (Named n) (carried (candidates_answer z L))
-  known_right n (unknown o) e L = tt
-  known_right n (known o f) e L = by_span (in_span L)
-    where
-      by_zone : (x : Candidates) → AllTold f x → AllRight m (Named n) x
-      by_zone (Gap c before after) h = rw e h
-      by_zone (One a) h = rw e h
-      by_zone (Two a b) h = rw e h
+  known_right n (unknown o) is L = tt
+  known_right n (known o f) is L = cond_both (in_span L) (Ok (candidates_at f L)) (Err (OutsideSpan o)) (λ r. GrantedAll m (Named n) (carried r)) (λ _. told_right n o f is L) (λ _. tt)
 
-      by_span : (b : Bool) → GrantedAll m (Named n) (carried (cond b (Ok (candidates_at f L)) (Err (OutsideSpan o))))
-      by_span true = by_zone (candidates_at f L) (told f L)
-      by_span false = tt
-
+  -- a test that is passed, or the refusal
   checked : (z : TimeZone) (b : Bool) (r : Result Candidates ZoneFault) → GrantedAll m z r → GrantedAll m z (cond b r (Err Range))
-  checked z true r h = h
-  checked z false r h = tt
+  checked z b r h = cond_both b r (Err Range) (GrantedAll m z) (λ _. h) (λ _. tt)
 
   candidates_right : (z : TimeZone) (L : ℤ) → GrantedAll m z (candidates_in m z L)
   candidates_right (Fixed k) L = refl

@@ -7,18 +7,19 @@ ghost use Rattle.time_zone.specs.declared.ZoneFault.TheVariants.{Provider as Car
 
 use provider::ProviderFault;
 
+pub mod lookup;
 pub mod possible;
 pub mod resolve;
 
-// A named zone, by its number at the provider, or a fixed offset in minutes.
-#[derive(Clone, Copy)]
+/// A named zone, by its number at the provider, or a fixed offset in minutes.
+#[derive(Clone, Copy, Debug, PartialEq, Eq)]
 pub enum TimeZone {
     Named(u16),
     Fixed(i16),
 }
 
-// Which instant a local time stands for where two read it, or none.
-#[derive(Clone, Copy)]
+/// Which instant a local time stands for where two read it, or none.
+#[derive(Clone, Copy, Debug, PartialEq, Eq)]
 pub enum Disambiguation {
     Compatible,
     Earlier,
@@ -26,8 +27,8 @@ pub enum Disambiguation {
     Reject,
 }
 
-// Why possible instants were not found or not resolved.
-#[derive(Clone, Copy)]
+/// Why possible instants were not found or not resolved.
+#[derive(Clone, Copy, Debug, PartialEq, Eq)]
 pub enum ZoneFault {
     // The provider's own fault, carried whole.
     Provider(ProviderFault),
@@ -40,6 +41,7 @@ pub enum ZoneFault {
 }
 
 impl ZoneFault {
+    /// The number of the refusal; faults share numbers, so it is a property and no conversion.
     pub fn number(self) -> u8
         ensures { result ≡ zone_number self }
     {
@@ -52,6 +54,7 @@ impl ZoneFault {
     }
 }
 
+// By hand, as a derived `From` has no contract.
 impl From<ProviderFault> for ZoneFault {
     ghost from_gives = { λ fault r. r ≡ Carried fault };
 

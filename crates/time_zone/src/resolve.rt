@@ -1,164 +1,119 @@
 // The one of the possible instants that a local time stands for, and the start of a day.
-ghost use Rattle.std.specs.Prelude.{◌≡◌, ◌≤◌, ◌+ℤ◌, ◌-ℤ◌, unsigned_abs};
+ghost use Rattle.std.specs.Prelude.{◌≡◌, ◌≤◌, ◌-ℤ◌, unsigned_abs};
 ghost use Rattle.time_zone.specs.Instants.{of_none, disambiguated, resolved, start_of_day, first_of as first_possible, last_of as last_possible, moved as moved_possible};
 
-use crate::possible::{day_within, get_possible_epoch_ns_for};
-use crate::{Disambiguation, TimeZone, ZoneFault};
-use clock::Timespec;
+use crate::lookup::ZoneLookup;
+use crate::possible::day_within;
+use crate::{Disambiguation, ZoneFault};
+use clock::{LocalTimespec, Timespec};
 use offsets::{Candidate, Candidates};
 use provider::Provider;
-
-// The possible instants of a local time that was moved out of a gap.
-fn moved_possible<P: Provider>(
-    provider: &P,
-    zone: TimeZone,
-    local: Timespec,
-) -> Result<Candidates, ZoneFault>
-    ensures { result ≡ moved_possible (P.means provider.now) zone local.seconds local.nanos }
-{
-    if !day_within(100_000_001, local) {
-        return Err(ZoneFault::Range);
-    }
-    get_possible_epoch_ns_for(provider, zone, local)
-}
-
-// The first of them; a local time that was moved out of a gap has one.
-fn first_moved<P: Provider>(
-    provider: &P,
-    zone: TimeZone,
-    local: Timespec,
-) -> Result<Candidate, ZoneFault>
-    ensures { result ≡ first_possible (moved_possible (P.means provider.now) zone local.seconds local.nanos) }
-{
-    match moved_possible(provider, zone, local)? {
-        Candidates::Gap { .. } => Err(ZoneFault::Range),
-        Candidates::One { only } => Ok(only),
-        Candidates::Two { first, .. } => Ok(first),
-    }
-}
-
-fn last_moved<P: Provider>(
-    provider: &P,
-    zone: TimeZone,
-    local: Timespec,
-) -> Result<Candidate, ZoneFault>
-    ensures { result ≡ last_possible (moved_possible (P.means provider.now) zone local.seconds local.nanos) }
-{
-    match moved_possible(provider, zone, local)? {
-        Candidates::Gap { .. } => Err(ZoneFault::Range),
-        Candidates::One { only } => Ok(only),
-        Candidates::Two { second, .. } => Ok(second),
-    }
-}
 
 // The jump of a gap.
 fn jump(before: i32, after: i32) -> i64
     ensures value { result ≡ after -ℤ before }
     ensures bound { unsigned_abs result ≤ 4294967295 }
 {
-    after as i64 - before as i64
+    i64::from(after) - i64::from(before)
 }
 
-// The local time moved back by the jump of a gap.
-fn moved_back(local: Timespec, before: i32, after: i32) -> Timespec
-    requires { unsigned_abs local.seconds ≤ 8640000259200 }
-    ensures { result ≡ record { seconds = local.seconds -ℤ (after -ℤ before); nanos = local.nanos } }
-{
-    Timespec {
-        seconds: local.seconds - jump(before, after),
-        nanos: local.nanos,
+impl<'a, P: Provider> ZoneLookup<'a, P> {
+    // The possible instants of a local time that was moved out of a gap.
+    fn moved_possible(self, local: Timespec) -> Result<Candidates, ZoneFault>
+        ensures { result ≡ moved_possible (P.means self.entry.provider.now) self.entry.zone local.seconds local.nanos }
+    {
+        if !day_within(100_000_001, local) {
+            return Err(ZoneFault::Range);
+        }
+        self.get_possible_epoch_ns_for(LocalTimespec { as_utc: local })
     }
-}
 
-// The local time moved on by the jump of a gap.
-fn moved_on(local: Timespec, before: i32, after: i32) -> Timespec
-    requires { unsigned_abs local.seconds ≤ 8640000259200 }
-    ensures { result ≡ record { seconds = local.seconds +ℤ (after -ℤ before); nanos = local.nanos } }
-{
-    Timespec {
-        seconds: local.seconds + jump(before, after),
-        nanos: local.nanos,
+    // The first of them; a local time that was moved out of a gap has one. With `last_moved` it is a line for each end: a parameter
+    // that tells which end is meant would be no plainer.
+    fn first_moved(self, local: Timespec) -> Result<Candidate, ZoneFault>
+        ensures { result ≡ first_possible (moved_possible (P.means self.entry.provider.now) self.entry.zone local.seconds local.nanos) }
+    {
+        self.moved_possible(local)?.first().ok_or(ZoneFault::Range)
     }
-}
 
-// The instant of a local time that falls into a gap.
-fn resolve_gap<P: Provider>(
-    provider: &P,
-    zone: TimeZone,
-    local: Timespec,
-    disambiguation: Disambiguation,
-    before: i32,
-    after: i32,
-) -> Result<Candidate, ZoneFault>
-    requires { unsigned_abs local.seconds ≤ 8640000259200 }
-    ensures { result ≡ of_none (P.means provider.now) zone local.seconds local.nanos disambiguation (after -ℤ before) }
-{
-    match disambiguation {
-        Disambiguation::Reject => Err(ZoneFault::Ambiguous),
-        Disambiguation::Earlier => first_moved(provider, zone, moved_back(local, before, after)),
-        Disambiguation::Compatible => last_moved(provider, zone, moved_on(local, before, after)),
-        Disambiguation::Later => last_moved(provider, zone, moved_on(local, before, after)),
+    fn last_moved(self, local: Timespec) -> Result<Candidate, ZoneFault>
+        ensures { result ≡ last_possible (moved_possible (P.means self.entry.provider.now) self.entry.zone local.seconds local.nanos) }
+    {
+        self.moved_possible(local)?.last().ok_or(ZoneFault::Range)
     }
-}
 
-// The one of the possible instants that the local time stands for.
-pub fn disambiguate_possible_epoch_nanos<P: Provider>(
-    provider: &P,
-    zone: TimeZone,
-    local: Timespec,
-    disambiguation: Disambiguation,
-    possible: Candidates,
-) -> Result<Candidate, ZoneFault>
-    requires { unsigned_abs local.seconds ≤ 8640000259200 }
-    ensures { result ≡ disambiguated (P.means provider.now) zone local.seconds local.nanos disambiguation possible }
-{
-    match possible {
-        Candidates::One { only } => Ok(only),
-        Candidates::Two { first, second } => match disambiguation {
-            Disambiguation::Compatible | Disambiguation::Earlier => Ok(first),
-            Disambiguation::Later => Ok(second),
+    // The instant of a local time that falls into a gap, which leaps by so many seconds.
+    #[tactic(auto, using(crate::proofs::Negated::plus_negated))]
+    fn resolve_gap(
+        self,
+        local: LocalTimespec,
+        disambiguation: Disambiguation,
+        jump: i64,
+    ) -> Result<Candidate, ZoneFault>
+        requires { unsigned_abs jump ≤ 4294967295 }
+        ensures { result ≡ of_none (P.means self.entry.provider.now) self.entry.zone local.as_utc.seconds local.as_utc.nanos disambiguation jump }
+    {
+        match disambiguation {
             Disambiguation::Reject => Err(ZoneFault::Ambiguous),
-        },
-        Candidates::Gap { before, after, .. } => {
-            resolve_gap(provider, zone, local, disambiguation, before, after)
+            Disambiguation::Earlier => self.first_moved(local.moved_by(-jump)),
+            Disambiguation::Compatible | Disambiguation::Later => {
+                self.last_moved(local.moved_by(jump))
+            }
         }
     }
-}
 
-// The instant that a local time stands for.
-pub fn get_epoch_nanoseconds_for<P: Provider>(
-    provider: &P,
-    zone: TimeZone,
-    local: Timespec,
-    disambiguation: Disambiguation,
-) -> Result<Candidate, ZoneFault>
-    requires { unsigned_abs local.seconds ≤ 8640000259200 }
-    ensures { result ≡ resolved (P.means provider.now) zone local.seconds local.nanos disambiguation }
-{
-    let possible = get_possible_epoch_ns_for(provider, zone, local)?;
-    disambiguate_possible_epoch_nanos(provider, zone, local, disambiguation, possible)
-}
+    /// The one of the possible instants that the local time stands for. A local time and how it is read stay two arguments, as each is
+    /// also given alone.
+    pub fn disambiguate_possible_epoch_nanos(
+        self,
+        local: LocalTimespec,
+        disambiguation: Disambiguation,
+        possible: Candidates,
+    ) -> Result<Candidate, ZoneFault>
+        ensures { result ≡ disambiguated (P.means self.entry.provider.now) self.entry.zone local.as_utc.seconds local.as_utc.nanos disambiguation possible }
+    {
+        match possible {
+            Candidates::One { only } => Ok(only),
+            Candidates::Two { first, second } => match disambiguation {
+                Disambiguation::Compatible | Disambiguation::Earlier => Ok(first),
+                Disambiguation::Later => Ok(second),
+                Disambiguation::Reject => Err(ZoneFault::Ambiguous),
+            },
+            Candidates::Gap { before, after, .. } => {
+                self.resolve_gap(local, disambiguation, jump(before, after))
+            }
+        }
+    }
 
-// The start of the day whose midnight is given.
-pub fn get_start_of_day<P: Provider>(
-    provider: &P,
-    zone: TimeZone,
-    midnight: i64,
-) -> Result<Candidate, ZoneFault>
-    requires { unsigned_abs midnight ≤ 8640000259200 }
-    ensures { result ≡ start_of_day (P.means provider.now) zone midnight }
-{
-    let local = Timespec {
-        seconds: midnight,
-        nanos: 0,
-    };
-    let possible = get_possible_epoch_ns_for(provider, zone, local)?;
-    match possible {
-        Candidates::Gap { change, after, .. } => Ok(Candidate {
-            second: change,
-            offset: after,
-        }),
-        Candidates::One { only } => Ok(only),
-        Candidates::Two { first, .. } => Ok(first),
+    /// The instant that a local time stands for.
+    pub fn get_epoch_nanoseconds_for(
+        self,
+        local: LocalTimespec,
+        disambiguation: Disambiguation,
+    ) -> Result<Candidate, ZoneFault>
+        ensures { result ≡ resolved (P.means self.entry.provider.now) self.entry.zone local.as_utc.seconds local.as_utc.nanos disambiguation }
+    {
+        let possible = self.get_possible_epoch_ns_for(local)?;
+        self.disambiguate_possible_epoch_nanos(local, disambiguation, possible)
+    }
+
+    /// The start of the day whose midnight is given.
+    pub fn get_start_of_day(self, midnight: i64) -> Result<Candidate, ZoneFault>
+        requires { unsigned_abs midnight ≤ 8640000259200 }
+        ensures { result ≡ start_of_day (P.means self.entry.provider.now) self.entry.zone midnight }
+    {
+        let local = LocalTimespec {
+            as_utc: Timespec {
+                seconds: midnight,
+                nanos: 0,
+            },
+        };
+        match self.get_possible_epoch_ns_for(local)? {
+            Candidates::Gap { change, after, .. } => Ok(Candidate {
+                second: change,
+                offset: after,
+            }),
+            Candidates::One { only: start } | Candidates::Two { first: start, .. } => Ok(start),
+        }
     }
 }

@@ -1,5 +1,6 @@
 -- Every instant that a request is granted comes with its zone's own offset there.
 use Rattle.std.proofs.Common.{◌≡◌, ℕ, Bool, true, false, cond, ℤ, pos, ◌-ℤ◌, Some, None, Ok, Err, Option, Result, refl}
+use Rattle.std.proofs.lemmas.Bool.{cond_both}
 use Rattle.clock.specs.Instants.{as_utc}
 use Rattle.clock.specs.declared.IsoTime.{IsoTime}
 use Rattle.offsets.specs.declared.Candidate.{Candidate}
@@ -32,16 +33,11 @@ module _ (m : Meaning) where
   -- ---- the arms of a set
 
   limited : (z : TimeZone) (b : Bool) (r : Result Candidate ZonedFault) → GrantedRight m z r → GrantedRight m z (cond b r (Err Limits))
-  limited z true r h = h
-  limited z false r h = tt
+  limited z b r h = cond_both b r (Err Limits) (GrantedRight m z) (λ _. h) (λ _. tt)
 
   known_at : (n : ℕ) (z : Zone) → m n ≡ z → (s : ℤ) → GrantedRight m (Named n) (at_offset s (carried (offset_answer z s)))
   known_at n (unknown o) e s = tt
-  known_at n (known o f) e s = by_span (in_span s)
-    where
-      by_span : (b : Bool) → GrantedRight m (Named n) (at_offset s (carried (cond b (Ok (f s)) (Err (OutsideSpan o)))))
-      by_span true = rw e refl
-      by_span false = tt
+  known_at n (known o f) e s = cond_both (in_span s) (Ok (f s)) (Err (OutsideSpan o)) (λ r. GrantedRight m (Named n) (at_offset s (carried r))) (λ _. rw e refl) (λ _. tt)
 
   at_offset_right : (z : TimeZone) (s : ℤ) → GrantedRight m z (at_offset s (offset_in m z s))
   at_offset_right (Fixed k) s = refl
@@ -58,17 +54,11 @@ module _ (m : Meaning) where
 
   match_right : (z : TimeZone) (q : Bool) (x : ℤ) (found : Candidates) (r : Result Candidate ZonedFault) → AllRight m z found → GrantedRight m z r → GrantedRight m z (matched_or (first_match q x found) r)
   match_right z q x (Gap c b a) r h k = k
-  match_right z q x (One a) r h k = by_test (offset_matches q x a.offset)
-    where
-      by_test : (b : Bool) → GrantedRight m z (matched_or (cond b (Some a) None) r)
-      by_test true = h
-      by_test false = k
-  match_right z q x (Two a b) r h k = by_test (offset_matches q x a.offset) (offset_matches q x b.offset)
-    where
-      by_test : (c d : Bool) → GrantedRight m z (matched_or (cond c (Some a) (cond d (Some b) None)) r)
-      by_test true d = h.0
-      by_test false true = h.1
-      by_test false false = k
+  match_right z q x (One a) r h k = cond_both (offset_matches q x a.offset) (Some a) None (λ c. GrantedRight m z (matched_or c r)) (λ _. h) (λ _. k)
+  match_right z q x (Two a b) r h k =
+      let P : Option Candidate → Type 0 = λ c. GrantedRight m z (matched_or c r) in
+      let second : Option Candidate = cond (offset_matches q x b.offset) (Some b) None in
+      cond_both (offset_matches q x a.offset) (Some a) second P (λ _. h.0) (λ _. cond_both (offset_matches q x b.offset) (Some b) None P (λ _. h.1) (λ _. k))
 
   by_match_right : (q : Request) (L : ℤ) (n : ℕ) (x : ℤ) (r : Result Candidates ZoneFault) → GrantedAll m q.zone r → GrantedRight m q.zone (by_match m q L n x r)
   by_match_right q L n x (Ok found) h =

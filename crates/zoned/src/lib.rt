@@ -3,16 +3,17 @@
 
 ghost use Rattle.std.specs.Prelude.{◌≡◌};
 ghost use Rattle.zoned.specs.Faults.{zoned_number};
+ghost use Rattle.calendar.specs.Gregorian.{Real};
 ghost use Rattle.zoned.specs.declared.ZonedFault.TheVariants.{Zone as Raised};
 
 use calendar::IsoDate;
-use clock::{IsoTime, Timespec};
+use clock::{IsoTime, Timespec, utc_timespec};
 use time_zone::{Disambiguation, TimeZone, ZoneFault};
 
 pub mod interpret;
 
-// What becomes of an offset that is given beside a local time.
-#[derive(Clone, Copy)]
+/// What becomes of an offset that is given beside a local time.
+#[derive(Clone, Copy, Debug, PartialEq, Eq)]
 pub enum OffsetDisambiguation {
     Use,
     Prefer,
@@ -20,8 +21,8 @@ pub enum OffsetDisambiguation {
     Reject,
 }
 
-// A local time in a zone, with what tells which instant it stands for.
-#[derive(Clone, Copy)]
+/// A local time in a zone, with what tells which instant it stands for.
+#[derive(Clone, Copy, Debug, PartialEq, Eq)]
 pub struct Request {
     pub zone: TimeZone,
     pub date: IsoDate,
@@ -37,15 +38,27 @@ pub struct Request {
     pub match_minutes: bool,
 }
 
-// An instant, and the zone's offset there.
-#[derive(Clone, Copy)]
+impl Request {
+    ghost use Rattle.zoned.specs.Interpret.{local_at};
+
+    /// The local time, counted as if in UTC; midnight where no time is given.
+    pub fn local_time(self) -> Timespec
+        requires { Real self.date }
+        ensures { result ≡ local_at self.date self.time }
+    {
+        utc_timespec(self.date, self.time.unwrap_or(IsoTime::MIDNIGHT))
+    }
+}
+
+/// An instant, and the zone's offset there.
+#[derive(Clone, Copy, Debug, PartialEq, Eq)]
 pub struct EpochNanosecondsAndOffset {
     pub ns: Timespec,
     pub offset: i32,
 }
 
-// Why a zoned operation was refused.
-#[derive(Clone, Copy)]
+/// Why a zoned operation was refused.
+#[derive(Clone, Copy, Debug, PartialEq, Eq)]
 pub enum ZonedFault {
     // What was refused while possible instants were found or resolved.
     Zone(ZoneFault),
@@ -66,6 +79,7 @@ pub enum ZonedFault {
 }
 
 impl ZonedFault {
+    /// The number of the refusal; faults share numbers, so it is a property and no conversion.
     pub fn number(self) -> u8
         ensures { result ≡ zoned_number self }
     {
@@ -82,6 +96,7 @@ impl ZonedFault {
     }
 }
 
+// By hand, as a derived `From` has no contract.
 impl From<ZoneFault> for ZonedFault {
     ghost from_gives = { λ fault r. r ≡ Raised fault };
 
