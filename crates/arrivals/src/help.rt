@@ -1,4 +1,4 @@
-// What `help` and `--help` print.
+/// What `help` and `--help` print.
 pub const HELP: &str = "# Arrivals: a sheet of 99 berths over a table of time zones.
 # One line is one call; each call gets one answer line. Empty lines and lines that begin with # are passed over.
 # table PATH            load a table of zones from a file

@@ -1,39 +1,27 @@
-// The lines of standard input, each cut out of the bytes that one read brought.
+// The lines of standard input, one after the other.
 use crate::output::Output;
-use script::bytes::find;
-use std::alloc::{AllocError, Global};
+use std::alloc::Global;
 use std::io;
-use std::io::{BufRead, BufReader, Stdin};
+use std::io::{BufRead, BufReader, Read, Stdin, Take};
 
 // A longer line has no form.
 const LONGEST: usize = 131_072;
 
 #[derive(Drop)]
 pub struct Input {
-    reader: BufReader<Stdin>,
+    // Its limit is how much is still read of a line.
+    reader: Take<BufReader<Stdin>>,
+    // The end was seen, so that a terminal is not asked again.
     ended: bool,
     // The line, of which no more is kept than shows that it is too long.
     line: Vec<u8>,
     number: u64,
 }
 
-enum Piece {
-    End,
-    Part,
-    Last,
-}
-
-// Adds so much of the bytes as is kept of a line.
-fn keep(line: &mut Vec<u8>, bytes: &[u8]) -> Result<(), AllocError> {
-    let room = (LONGEST + 1).saturating_sub(line.len());
-    let kept = room.min(bytes.len());
-    line.extend_from_slice(&bytes[0..kept])
-}
-
 impl Input {
     pub fn new(rt: &HostRuntime, heap: Global) -> io::Result<Input> {
         Ok(Input {
-            reader: BufReader::new(heap, rt.stdin())?,
+            reader: BufReader::new(heap, rt.stdin())?.take(0),
             ended: false,
             line: Vec::new(heap),
             number: 0,
@@ -44,7 +32,7 @@ impl Input {
         self.line.as_slice()
     }
 
-    // Counted from 1 over all lines.
+    /// Counted from 1 over all lines.
     pub fn number(&self) -> u64 {
         self.number
     }
@@ -53,7 +41,7 @@ impl Input {
         self.line.len() > LONGEST
     }
 
-    // Nothing is called for an empty line or a comment.
+    /// Nothing is called for an empty line or a comment.
     pub fn is_passed_over(&self) -> bool {
         match self.line.as_slice() {
             [] => true,
@@ -61,43 +49,28 @@ impl Input {
         }
     }
 
-    // Takes what is at hand of the line, up to its end.
-    fn take_piece(&mut self) -> anyhow::Result<Piece> {
-        let held = self.reader.fill_buf()?;
-        if held.is_empty() {
-            return Ok(Piece::End);
-        }
-        let end = find(held, b'\n');
-        keep(&mut self.line, &held[0..end])?;
-        if end < held.len() {
-            self.reader.consume(end + 1);
-            return Ok(Piece::Last);
-        }
-        self.reader.consume(end);
-        Ok(Piece::Part)
-    }
-
-    // Goes to the next line, and tells whether there is one.
-    // Before it waits for more input it writes out the answers so far, for whoever is at a terminal.
+    /// Goes to the next line, and tells whether there is one.
+    /// Before it waits for more input it writes out the answers so far, for whoever is at a terminal.
     pub fn next_line(&mut self, rt: &HostRuntime, output: &mut Output) -> anyhow::Result<bool> {
         self.line.clear();
         self.number = self.number.saturating_add(1);
-        for _ in 0..u64::MAX {
-            if self.ended {
-                return Ok(false);
-            }
-            if self.reader.buffer().is_empty() {
-                output.flush(rt)?;
-            }
-            match self.take_piece()? {
-                Piece::Last => return Ok(true),
-                Piece::Part => {}
-                Piece::End => {
-                    self.ended = true;
-                    return Ok(!self.line.is_empty());
-                }
-            }
+        if self.ended {
+            return Ok(false);
         }
-        Ok(false)
+        if !self.reader.get_ref().buffer().contains(&b'\n') {
+            output.flush(rt)?;
+        }
+        // `u64` has no `from` of a `usize`.
+        self.reader.set_limit(LONGEST as u64 + 1);
+        let read = self.reader.read_until(b'\n', &mut self.line)?;
+        if self.line.last() == Some(&b'\n') {
+            self.line.pop();
+        } else if self.is_too_long() {
+            self.reader.set_limit(u64::MAX);
+            self.reader.skip_until(b'\n')?;
+        } else {
+            self.ended = true;
+        }
+        Ok(read > 0)
     }
 }

@@ -2,12 +2,12 @@
 #![tactic(auto)]
 
 use crate::help::HELP;
-use crate::run::run;
 use crate::session::Session;
 use anyhow::anyhow;
 use std::env;
 use std::process::ExitCode;
 
+mod answer;
 mod help;
 mod input;
 mod output;
@@ -36,8 +36,8 @@ fn start(rt: &HostRuntime) -> anyhow::Result<()> {
         return Ok(());
     }
     let mut session = Session::new(rt)?;
-    let ran = run(rt, &mut session);
-    session.flush(rt)?;
+    let ran = session.run();
+    session.flush()?;
     ran
 }
 

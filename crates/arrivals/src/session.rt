@@ -1,81 +1,75 @@
 // The script as it is read: what needs no sheet is answered here, and the rest is handed on.
+use crate::answer::Answer;
 use crate::help::HELP;
 use crate::input::Input;
 use crate::output::Output;
 use crate::table::load;
-use script::command::{Call, Command, Table, read_line};
+use script::command::{Call, Command, read_line};
 use table_end::weigh;
 
 #[derive(Drop)]
-pub struct Session {
+pub struct Session<'a> {
+    rt: &'a HostRuntime,
     input: Input,
     output: Output,
     // The bytes of the table that was given last, unless a sheet has them.
     table: Option<Vec<u8>>,
 }
 
+/// What a line asks of a sheet.
+#[derive(Clone, Copy)]
 pub enum Step {
-    End,
     Open,
     Call(Call),
 }
 
-// Keeps a table that is granted; a refused one leaves what stood before.
-fn give_table(
-    rt: &HostRuntime,
-    output: &mut Output,
-    kept: &mut Option<Vec<u8>>,
-    table: Table<'_>,
-) -> anyhow::Result<()> {
-    let bytes = load(rt, table)?;
-    match weigh(bytes.as_slice()) {
-        Err(fault) => output.refused_table(fault),
-        Ok(counts) => {
-            *kept = Some(bytes);
-            output.table(counts)
-        }
-    }
-}
-
-impl Session {
-    pub fn new(rt: &HostRuntime) -> anyhow::Result<Session> {
+impl<'a> Session<'a> {
+    pub fn new(rt: &'a HostRuntime) -> anyhow::Result<Session<'a>> {
         Ok(Session {
+            rt,
             input: Input::new(rt, rt.alloc())?,
             output: Output::new(rt.alloc()),
             table: None,
         })
     }
 
-    pub fn output(&mut self) -> &mut Output {
-        &mut self.output
+    pub fn answer(&mut self, answer: Answer) -> anyhow::Result<()> {
+        self.output.line(answer)
     }
 
-    pub fn flush(&mut self, rt: &HostRuntime) -> anyhow::Result<()> {
-        self.output.flush(rt)?;
-        Ok(())
+    pub fn flush(&mut self) -> anyhow::Result<()> {
+        Ok(self.output.flush(self.rt)?)
     }
 
     pub fn bad_line(&mut self) -> anyhow::Result<()> {
-        self.output.bad_line(self.input.number())
-    }
-
-    pub fn has_table(&self) -> bool {
-        self.table.is_some()
+        let number = self.input.number();
+        self.answer(Answer::BadLine(number))
     }
 
     pub fn take_table(&mut self) -> Option<Vec<u8>> {
         self.table.take()
     }
 
-    // Puts back the table that a sheet had, unless a later one was given.
+    /// Puts back the table that a sheet had, unless a later one was given.
     pub fn put_back(&mut self, bytes: Vec<u8>) {
         if self.table.is_none() {
             self.table = Some(bytes);
         }
     }
 
+    // Keeps a table that is granted; a refused one leaves what stood before.
+    fn give_table(&mut self, bytes: Vec<u8>) -> anyhow::Result<()> {
+        match weigh(bytes.as_slice()) {
+            Err(fault) => self.answer(Answer::RefusedTable(fault)),
+            Ok(counts) => {
+                self.table = Some(bytes);
+                self.answer(Answer::Table(counts))
+            }
+        }
+    }
+
     // Answers the line if it needs no sheet, and else says what it asks of one.
-    fn step(&mut self, rt: &HostRuntime) -> anyhow::Result<Option<Step>> {
+    fn step(&mut self) -> anyhow::Result<Option<Step>> {
         if self.input.is_passed_over() {
             return Ok(None);
         }
@@ -84,10 +78,11 @@ impl Session {
             return Ok(None);
         }
         match read_line(self.input.line()) {
-            None => self.output.bad_line(self.input.number())?,
+            None => self.bad_line()?,
             Some(Command::Help) => self.output.line(HELP)?,
             Some(Command::Table(table)) => {
-                give_table(rt, &mut self.output, &mut self.table, table)?
+                let bytes = load(self.rt, table)?;
+                self.give_table(bytes)?;
             }
             Some(Command::Open) => return Ok(Some(Step::Open)),
             Some(Command::Call(call)) => return Ok(Some(Step::Call(call))),
@@ -95,16 +90,18 @@ impl Session {
         Ok(None)
     }
 
-    // Goes on to the next line that asks something of a sheet.
-    pub fn next_step(&mut self, rt: &HostRuntime) -> anyhow::Result<Step> {
+    /// Goes on to the next line that asks something of a sheet; None is the end of the script.
+    pub fn next_step(&mut self) -> anyhow::Result<Option<Step>> {
+        // A bound that no script reaches: a loop that waits for input has no other measure.
         for _ in 0..u64::MAX {
-            if !self.input.next_line(rt, &mut self.output)? {
-                return Ok(Step::End);
+            if !self.input.next_line(self.rt, &mut self.output)? {
+                return Ok(None);
             }
-            if let Some(step) = self.step(rt)? {
+            let step = self.step()?;
+            if step.is_some() {
                 return Ok(step);
             }
         }
-        Ok(Step::End)
+        Ok(None)
     }
 }

@@ -23,10 +23,9 @@ fn hex_digit(byte: u8) -> u8
 // Two digits to a byte, the higher one first.
 fn from_hex(heap: Global, digits: &[u8]) -> Result<Vec<u8>, AllocError> {
     let mut bytes = Vec::new(heap);
-    for at in 0..digits.len() / 2 {
-        let high = hex_digit(digits[2 * at]);
-        let low = hex_digit(digits[2 * at + 1]);
-        bytes.push(high * 16 + low)?;
+    let (pairs, _) = digits.as_chunks::<2>();
+    for [high, low] in pairs {
+        bytes.push(hex_digit(*high) * 16 + hex_digit(*low))?;
     }
     Ok(bytes)
 }
@@ -44,12 +43,7 @@ fn read_some(rt: &HostRuntime, path: &str) -> io::Result<Vec<u8>> {
 
 fn from_file(rt: &HostRuntime, path: &[u8]) -> anyhow::Result<Vec<u8>> {
     let path = from_utf8(path)?;
-    match read_some(rt, path) {
-        Ok(bytes) => Ok(bytes),
-        Err(error) => Err(anyhow!(format!(in rt.alloc();
-            "the table {path} cannot be read: {error}"
-        )?)),
-    }
+    read_some(rt, path).map_err(|error| anyhow!("the table {path} cannot be read: {error}"))
 }
 
 pub fn load(rt: &HostRuntime, table: Table<'_>) -> anyhow::Result<Vec<u8>> {

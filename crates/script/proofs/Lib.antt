@@ -1,3 +1,4 @@
+pub mod Alike
 pub mod Cutting
 pub mod Digits
 pub mod Fractions

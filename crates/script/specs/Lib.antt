@@ -4,4 +4,6 @@ pub mod Forms
 pub mod Numbers
 pub mod Options
 pub mod Requests
+pub mod Tables
 pub mod Words
+pub mod Widths

@@ -1,5 +1,5 @@
 -- The words of a line, taken one by one: what is left of the line, or None behind its last word.
-use Rattle.std.specs.Prelude.{ℕ, Bool, false, cond, List, Some, None, Option}
+use Rattle.std.specs.Prelude.{ℕ, ◌+◌, Bool, false, cond, List, length, Some, None, Option}
 use Rattle.script.specs.Cuts.{alike, behind, halves}
 
 abbrev pub front : Option (List ℕ × List ℕ) → List ℕ → List ℕ
@@ -30,3 +30,8 @@ word_behind p (Some w) = behind p w
 -- What is left once a word was taken, or where none was.
 abbrev pub rest_if : Bool → Option (List ℕ) → Option (List ℕ)
 rest_if t s = cond t (next_rest s) s
+
+-- The bytes that are left, with the end of the last word, are no fewer than the words.
+abbrev pub bytes_left : Option (List ℕ) → ℕ
+bytes_left None = 0
+bytes_left (Some bs) = length bs + 1

@@ -1,58 +1,44 @@
-// Bytes compared, and cut at a separator.
-ghost use Rattle.std.specs.Prelude.{◌≡◌, ◌≤◌, length};
+// Bytes cut at a separator, or behind a prefix. Text and separator are what a search is asked, as the library's are: no value of their own.
+ghost use Rattle.std.specs.Prelude.{◌≡◌, ◌≤◌, ◌==◌, length, nat_lt, position};
 ghost use Rattle.std.specs.Option.{option_map};
-ghost use Rattle.script.specs.Cuts.{alike, behind, place, halves};
+ghost use Rattle.script.specs.Cuts.{behind, place, halves};
 
-// Whether the two are the same, byte for byte.
-pub(crate) fn same(text: &[u8], other: &[u8]) -> bool
-    ensures { result ≡ alike text.now other.now }
+// The place of the first separator.
+fn position(text: &[u8], separator: u8) -> Option<usize>
+    ensures { result ≡ position (λ byte. byte == separator) text.now }
 {
-    if text.len() != other.len() {
-        return false;
-    }
-    for at in 0..text.len() {
-        if text[at] != other[at] {
-            return false;
-        }
-    }
-    true
+    text.iter().position(|byte| *byte == separator)
 }
 
-// The place of the first separator, or the length where there is none.
+/// The place of the first separator, or the length where there is none.
+#[tactic(auto, using(crate::proofs::Cutting::place_is, crate::proofs::Cutting::place_within))]
 pub fn find(text: &[u8], separator: u8) -> usize
     ensures value { result ≡ place separator text.now }
     ensures within { result ≤ length text.now }
 {
-    for (at, byte) in text.iter().enumerate() {
-        if *byte == separator {
-            return at;
-        }
-    }
-    text.len()
+    position(text, separator).unwrap_or(text.len())
+}
+
+#[tactic(auto, using(crate::proofs::Cutting::place_is))]
+pub(crate) fn has(text: &[u8], separator: u8) -> bool
+    ensures { result ≡ nat_lt (place separator text.now) (length text.now) }
+{
+    position(text, separator).is_some()
 }
 
 // What stands before the first separator, and what stands behind it.
+#[tactic(auto, using(crate::proofs::Cutting::place_is))]
 pub(crate) fn cut(text: &[u8], separator: u8) -> Option<(&[u8], &[u8])>
     ensures { option_map (λ x. (x.0.now, x.1.now)) result ≡ halves separator text.now }
 {
-    let at = find(text, separator);
-    if at >= text.len() {
-        return None;
-    }
-    Some((&text[0..at], &text[at + 1..]))
+    let at = position(text, separator)?;
+    Some((&text[..at], &text[at + 1..]))
 }
 
 // What stands behind the prefix, where the text begins with it.
+#[tactic(auto, using(crate::proofs::Cutting::behind_is))]
 pub(crate) fn after<'a>(text: &'a [u8], prefix: &[u8]) -> Option<&'a [u8]>
     ensures { option_map (λ x. x.now) result ≡ behind prefix.now text.now }
 {
-    if text.len() < prefix.len() {
-        return None;
-    }
-    for at in 0..prefix.len() {
-        if text[at] != prefix[at] {
-            return None;
-        }
-    }
-    Some(&text[prefix.len()..])
+    text.strip_prefix(prefix)
 }

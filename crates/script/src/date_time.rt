@@ -1,19 +1,12 @@
 // Dates, as `-271821-04-19`, and times of day, as `01:30:00.5`.
 ghost use Rattle.std.specs.Prelude.{◌≡◌, Some};
 ghost use Rattle.script.specs.Cuts.{halves};
-ghost use Rattle.script.specs.Dates.{year_of, date_in_year, date_cut, date_of, second_of, time_in_hour, time_of};
+ghost use Rattle.script.specs.Dates.{date_in_year, date_cut, date_of, second_of, time_in_hour, time_of};
 
-use crate::bytes::{after, cut};
-use crate::number::{as_i32, fraction, short, signed};
+use crate::bytes::cut;
+use crate::number::{fraction, short, signed};
 use calendar::IsoDate;
 use clock::IsoTime;
-
-// A year behind its sign.
-fn year(negative: bool, text: &[u8]) -> Option<i32>
-    ensures { result ≡ year_of negative text.now }
-{
-    as_i32(signed(negative, text)?)
-}
 
 // MONTH-DAY behind the year.
 fn date_in_year(year: i32, text: &[u8]) -> Option<IsoDate>
@@ -32,20 +25,19 @@ fn unsigned_date(negative: bool, text: &[u8]) -> Option<IsoDate>
     ensures { result ≡ date_cut negative (halves 45 text.now) }
 {
     let (digits, rest) = cut(text, b'-')?;
-    date_in_year(year(negative, digits)?, rest)
+    let year = i32::try_from(signed(negative, digits)?).ok()?;
+    date_in_year(year, rest)
 }
 
 // YEAR-MONTH-DAY; the year may have either sign.
 pub(crate) fn date(text: &[u8]) -> Option<IsoDate>
     ensures { result ≡ date_of text.now }
 {
-    if let Some(rest) = after(text, b"-") {
-        return unsigned_date(true, rest);
+    match text {
+        [b'-', rest @ ..] => unsigned_date(true, rest),
+        [b'+', rest @ ..] => unsigned_date(false, rest),
+        _ => unsigned_date(false, text),
     }
-    if let Some(rest) = after(text, b"+") {
-        return unsigned_date(false, rest);
-    }
-    unsigned_date(false, text)
 }
 
 // SS or SS.F, with the nanoseconds of F.
@@ -62,24 +54,16 @@ fn second(text: &[u8]) -> Option<(u8, u32)>
 fn time_in_hour(hour: u8, text: &[u8]) -> Option<IsoTime>
     ensures { result ≡ time_in_hour hour (halves 58 text.now) text.now }
 {
-    match cut(text, b':') {
-        None => Some(IsoTime {
-            hour,
-            minute: short(text)?,
-            second: 0,
-            nanosecond: 0,
-        }),
-        Some((minute, rest)) => {
-            let minute = short(minute)?;
-            let (second, nanosecond) = second(rest)?;
-            Some(IsoTime {
-                hour,
-                minute,
-                second,
-                nanosecond,
-            })
-        }
-    }
+    let (minute, (second, nanosecond)) = match cut(text, b':') {
+        None => (short(text)?, (0, 0)),
+        Some((minute, rest)) => (short(minute)?, second(rest)?),
+    };
+    Some(IsoTime {
+        hour,
+        minute,
+        second,
+        nanosecond,
+    })
 }
 
 // HH:MM, HH:MM:SS or HH:MM:SS.F.

@@ -6,5 +6,6 @@ pub mod command;
 mod date_time;
 mod number;
 mod options;
+mod width;
 mod words;
 mod zone;

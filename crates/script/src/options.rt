@@ -1,14 +1,16 @@
 // The optional words of a `set`, each with what stands for it where it is left out.
-// None is a bad form.
-ghost use Rattle.std.specs.Prelude.{◌≡◌, is_some, codes};
-ghost use Rattle.std.specs.Option.{option_map};
-ghost use Rattle.script.specs.Options.{is_time, time_word, offset_word, policy_word, disambiguation_word};
+// None is a bad form, as everywhere in this crate; inside it, an option says whether the word was there.
+ghost use Rattle.std.specs.Prelude.{◌≡◌, is_some, codes, Some, MatchOption};
+ghost use Rattle.std.specs.Fn.{FnOnceReturnsAt};
+ghost use Rattle.script.specs.Numbers.{number, signed_below};
+ghost use Rattle.script.specs.Options.{given_offset, time_word, offset_word, policy_word, disambiguation_word};
 ghost use Rattle.script.specs.Words.{next_word, word_behind, rest_if};
+ghost use Rattle.script.specs.Requests.{past_time, past_behind};
 ghost use Rattle.script.specs.Forms.{policy_of, disambiguation_of};
 
-use crate::bytes::{find, same};
+use crate::bytes::has;
 use crate::date_time::time;
-use crate::number::read_i32;
+use crate::number::read;
 use crate::words::Words;
 use clock::IsoTime;
 use time_zone::Disambiguation;
@@ -16,81 +18,87 @@ use zoned::OffsetDisambiguation;
 
 // Only a time has a colon.
 pub(crate) fn optional_time(words: &mut Words<'_>) -> Option<Option<IsoTime>>
-    ensures value { result ≡ time_word (next_word (option_map (λ x. x.now) words.old.rest)) }
-    ensures rest { option_map (λ x. x.now) words.new.rest ≡ rest_if (is_time (next_word (option_map (λ x. x.now) words.old.rest))) (option_map (λ x. x.now) words.old.rest) }
+    ensures value { result ≡ time_word (next_word words.old) }
+    ensures rest { words.new ≡ past_time words.old }
 {
-    let Some(word) = words.peek() else {
-        return Some(None);
-    };
-    if find(word, b':') >= word.len() {
-        return Some(None);
+    match words.peek() {
+        Some(word) if has(word, b':') => {
+            words.next();
+            time(word).map(Some)
+        }
+        _ => Some(None),
     }
-    let _ = words.next();
-    Some(Some(time(word)?))
+}
+
+// What the word behind the prefix is read as, or the default where no such word stands there.
+fn optional<T: Drop, F: FnOnce(&[u8]) -> Option<T>>(
+    words: &mut Words<'_>,
+    prefix: &[u8],
+    default: T,
+    read: F,
+) -> Option<T>
+    requires { F.IsAlwaysCallable read }
+    ensures value { MatchOption (word_behind prefix.now (next_word words.old)) (result ≡ Some default) (λ word. FnOnceReturnsAt F.FnOnce read word result) }
+    ensures rest { words.new ≡ past_behind prefix.now words.old }
+{
+    words.take_after(prefix).map_or(Some(default), read)
+}
+
+fn offset(seconds: &[u8]) -> Option<Option<i32>>
+    ensures { result ≡ given_offset (signed_below 2147483648 (number seconds.now)) }
+{
+    read(seconds).map(Some)
 }
 
 pub(crate) fn optional_offset(words: &mut Words<'_>) -> Option<Option<i32>>
-    ensures value { result ≡ offset_word (word_behind (codes "offset=") (next_word (option_map (λ x. x.now) words.old.rest))) }
-    ensures rest { option_map (λ x. x.now) words.new.rest ≡ rest_if (is_some (word_behind (codes "offset=") (next_word (option_map (λ x. x.now) words.old.rest)))) (option_map (λ x. x.now) words.old.rest) }
+    ensures value { result ≡ offset_word (word_behind (codes "offset=") (next_word words.old)) }
+    ensures rest { words.new ≡ past_behind (codes "offset=") words.old }
 {
-    match words.take_after(b"offset=") {
-        None => Some(None),
-        Some(seconds) => Some(Some(read_i32(seconds)?)),
-    }
+    optional(words, b"offset=", None, offset)
 }
 
+// A list of words for each enum: one function for both would have to be given the list.
+#[tactic(auto, using(crate::proofs::Alike::told_apart))]
 fn policy(word: &[u8]) -> Option<OffsetDisambiguation>
     ensures { result ≡ policy_of word.now }
 {
-    if same(word, b"use") {
-        return Some(OffsetDisambiguation::Use);
+    match word {
+        b"use" => Some(OffsetDisambiguation::Use),
+        b"prefer" => Some(OffsetDisambiguation::Prefer),
+        b"ignore" => Some(OffsetDisambiguation::Ignore),
+        b"reject" => Some(OffsetDisambiguation::Reject),
+        _ => None,
     }
-    if same(word, b"prefer") {
-        return Some(OffsetDisambiguation::Prefer);
-    }
-    if same(word, b"ignore") {
-        return Some(OffsetDisambiguation::Ignore);
-    }
-    if same(word, b"reject") {
-        return Some(OffsetDisambiguation::Reject);
-    }
-    None
 }
 
 pub(crate) fn optional_policy(words: &mut Words<'_>) -> Option<OffsetDisambiguation>
-    ensures value { result ≡ policy_word (word_behind (codes "policy=") (next_word (option_map (λ x. x.now) words.old.rest))) }
-    ensures rest { option_map (λ x. x.now) words.new.rest ≡ rest_if (is_some (word_behind (codes "policy=") (next_word (option_map (λ x. x.now) words.old.rest)))) (option_map (λ x. x.now) words.old.rest) }
+    ensures value { result ≡ policy_word (word_behind (codes "policy=") (next_word words.old)) }
+    ensures rest { words.new ≡ past_behind (codes "policy=") words.old }
 {
-    match words.take_after(b"policy=") {
-        None => Some(OffsetDisambiguation::Reject),
-        Some(word) => policy(word),
-    }
+    optional(words, b"policy=", OffsetDisambiguation::Reject, policy)
 }
 
+#[tactic(auto, using(crate::proofs::Alike::told_apart))]
 fn disambiguation(word: &[u8]) -> Option<Disambiguation>
     ensures { result ≡ disambiguation_of word.now }
 {
-    if same(word, b"compatible") {
-        return Some(Disambiguation::Compatible);
+    match word {
+        b"compatible" => Some(Disambiguation::Compatible),
+        b"earlier" => Some(Disambiguation::Earlier),
+        b"later" => Some(Disambiguation::Later),
+        b"reject" => Some(Disambiguation::Reject),
+        _ => None,
     }
-    if same(word, b"earlier") {
-        return Some(Disambiguation::Earlier);
-    }
-    if same(word, b"later") {
-        return Some(Disambiguation::Later);
-    }
-    if same(word, b"reject") {
-        return Some(Disambiguation::Reject);
-    }
-    None
 }
 
 pub(crate) fn optional_disambiguation(words: &mut Words<'_>) -> Option<Disambiguation>
-    ensures value { result ≡ disambiguation_word (word_behind (codes "disambiguation=") (next_word (option_map (λ x. x.now) words.old.rest))) }
-    ensures rest { option_map (λ x. x.now) words.new.rest ≡ rest_if (is_some (word_behind (codes "disambiguation=") (next_word (option_map (λ x. x.now) words.old.rest)))) (option_map (λ x. x.now) words.old.rest) }
+    ensures value { result ≡ disambiguation_word (word_behind (codes "disambiguation=") (next_word words.old)) }
+    ensures rest { words.new ≡ past_behind (codes "disambiguation=") words.old }
 {
-    match words.take_after(b"disambiguation=") {
-        None => Some(Disambiguation::Compatible),
-        Some(word) => disambiguation(word),
-    }
+    optional(
+        words,
+        b"disambiguation=",
+        Disambiguation::Compatible,
+        disambiguation,
+    )
 }

@@ -1,5 +1,11 @@
-use Rattle.script.proofs.Cutting.{halves_at}
+use Rattle.std.proofs.Common.{◌≡◌, ◌<◌, length, arith}
+use Rattle.std.proofs.lemmas.Grind.{common_steps}
+use Rattle.script.specs.Cuts.{place}
+use Rattle.script.proofs.Cutting.{place_is}
 use Rattle.script.proofs.bytes.cut.Goals as goal
 
 pub returns : goal.returns
-returns c = halves_at c.args.separator c.args.text.now c.find-at.result c.find-at.ensures.value c.if-at-text.false
+returns c =
+    let first : c.in_ok-at.at ≡ place c.args.separator c.args.text.now = grind (arith, place_is) in
+    let within : c.in_ok-at.at < length c.args.text.now = grind (arith, place_is) in
+    grind (arith, common_steps)
