@@ -35,7 +35,8 @@ impl<'a> Session<'a> {
         Ok(false)
     }
 
-    // Goes to the next `open`, and tells whether there is one; no call has a sheet before it.
+    // Goes to the next `open`, and tells whether there is one; no call has a sheet before it. Beside `serve`, since one function
+    // would have to be given what to do with a call.
     fn find_open(&mut self) -> anyhow::Result<bool> {
         for _ in 0..u64::MAX {
             match self.next_step()? {

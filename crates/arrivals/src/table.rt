@@ -9,6 +9,7 @@ use std::io;
 use std::io::Read;
 use std::str::from_utf8;
 
+// Not `to_digit`, which answers an `Option` of a `u32`: other bytes do not come here.
 fn hex_digit(byte: u8) -> u8
     ensures { result < 16 }
 {

@@ -44,6 +44,7 @@ fn days_before_month(leap_year: bool, month: u8) -> u16
 }
 
 // The leap days of the years 1 to `past`, or, below 0, less those of the years from `past` + 1 to 0.
+#[tactic(auto, using(crate::proofs::Floors::floors, crate::proofs::Floors::signs), unfolding(crate::specs::Parts::leap_days))]
 fn leap_days(past: i64) -> i64
     requires { unsigned_abs past ≤ 4294967296 }
     ensures value { result ≡ leap_days past }
@@ -52,6 +53,7 @@ fn leap_days(past: i64) -> i64
     past.div_euclid(4) - past.div_euclid(100) + past.div_euclid(400)
 }
 
+#[tactic(auto, using(crate::proofs::Floors::signs, crate::proofs::Years::start_is))]
 fn year_start(year: i32) -> i64
     ensures value { result ≡ year_start year }
     ensures bounds { unsigned_abs result ≤ 1000000000000 }
@@ -68,7 +70,7 @@ pub struct IsoDate {
     pub day: u8,
 }
 
-// The day on which a month begins.
+// The day on which a month begins. That a month is one of twelve is asked in three places: a type of it would be made for one call each.
 #[tactic(auto, using(crate::proofs::Floors::signs))]
 fn month_start(year: i32, month: u8) -> i64
     requires { (1 ≤ month) × (month ≤ 12) }

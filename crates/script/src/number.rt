@@ -14,7 +14,7 @@ fn with_digit(value: u64, byte: u8) -> Option<u64>
     value.checked_mul(10)?.checked_add(u64::from(byte - b'0'))
 }
 
-// The value of one digit or more, where it fits 64 bits.
+// The value of one digit or more, where it fits 64 bits. Not `parse`, which takes text and a `+`: these are bytes.
 #[tactic(auto, using(crate::proofs::Digits::read_all))]
 pub(crate) fn natural(text: &[u8]) -> Option<u64>
     ensures { result ≡ below (2 ^ 64) (decimal text.now) }

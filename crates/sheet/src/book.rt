@@ -17,7 +17,7 @@ pub struct Sheet<P> {
     ghost ranged: { all_in_range berths.rows ≡ true },
 }
 
-// The local time that an arrival's instant reads, counted as if in UTC.
+// The local time that an arrival's instant reads, counted as if in UTC. No `LocalTimespec::moved_by`: what is moved is an instant.
 fn local_of(arrival: Arrival) -> Timespec
     requires { valid_epoch arrival.instant ≡ true }
     ensures value { result ≡ local_of arrival }

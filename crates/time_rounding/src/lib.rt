@@ -66,7 +66,7 @@ pub fn is_allowed_increment(unit: TimeUnit, increment: u16) -> bool
     ensures { result ≡ allowed_increment unit increment }
 {
     let larger = unit.in_larger();
-    0 < increment && increment < larger && larger % increment == 0
+    (1..larger).contains(&increment) && larger % increment == 0
 }
 
 // The nanoseconds since midnight.

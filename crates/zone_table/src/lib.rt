@@ -107,6 +107,7 @@ impl<'a> Table<'a> {
         Some(Table { bytes })
     }
 
+    /// As `zones` of bytes, and `rows` below, of which no size has to be asked.
     pub fn zones(self) -> usize
         ensures { result ≡ zone_count self.entry.bytes.now }
     {
