@@ -69,7 +69,7 @@ unfolding failing
 failing_stays p i n zero h = let z : 0 + n ≡ n = omega arith in rw z h
 failing_stays p i n (suc d) h = let z : suc d + n ≡ suc (d + n) = omega arith in rw (z, failing_stays p i n d h) refl
 
-failing_stops : (p : ℕ → Bool) (i n : ℕ) → failing p i ≡ None → p i ≡ false → i < n → failing p n ≡ Some i
+pub failing_stops : (p : ℕ → Bool) (i n : ℕ) → failing p i ≡ None → p i ≡ false → i < n → failing p n ≡ Some i
 failing_stops p i n h e l =
     let z : (n - suc i) + suc i ≡ n = omega arith in
     let P : ℕ → Type 0 = λ m. failing p m ≡ Some i in
@@ -96,6 +96,10 @@ failing_all p (suc n) h i l =
     ⊎_elim (λ e. rw e (cond_none (p n) n both.1)) (λ m. failing_all p n both.0 i m) (eq-or-lt_of_le {n = i} {m = n} (omega arith))
 
 -- ---- where the zones' rows begin
+
+pub start_none : (bs : List ℕ) → start bs 0 ≡ 0
+unfolding start
+start_none bs = refl
 
 pub start_more : (bs : List ℕ) (z : ℕ) → start bs (z + 1) ≡ start bs z + count bs z
 unfolding start
@@ -207,7 +211,7 @@ pub zone_inside : (bs : List ℕ) (z : ℕ) → laid bs ≡ true → z < zones b
 zone_inside bs z h l = let w = start_within bs z (zones bs) l in let s = (laid_facts bs h).sum in omega arith
 
 -- with which the check proves `first_breach`
-pub ruleset breach_steps = (breach_none, breach_more, breach_stops, zone_inside)
+pub ruleset breach_steps = (start_none, start_more, breach_none, breach_more, breach_stops, zone_inside)
 
 pub sound_laid : (bs : List ℕ) → Sound bs → Laid bs
 sound_laid bs h = laid_facts bs (sound_both (laid bs) (breach bs (zones bs)) h).0

@@ -200,11 +200,14 @@ impl<'a> Table<'a> {
         requires { laid self.bytes.now ≡ true }
         ensures { result ≡ breach self.entry.bytes.now (zone_count self.entry.bytes.now) }
     {
+        // Carried on from zone to zone: with `start` at each, the counts would be summed anew as often as there are zones.
+        let mut base = 0;
         for zone in 0..self.zones() {
-            let base = start(self.bytes, zone);
-            if let Some(place) = self.zone_breach(base, count(self.bytes, zone)) {
+            let rows = count(self.bytes, zone);
+            if let Some(place) = self.zone_breach(base, rows) {
                 return Some(base + place);
             }
+            base += rows;
         }
         None
     }
