@@ -1,5 +1,5 @@
 // The answers, one line to each call, held until they are written out together.
-use anyhow::Context;
+use anyhow::anyhow;
 use std::alloc::Global;
 use std::fmt::{Display, Write as WriteText};
 use std::io;
@@ -30,6 +30,6 @@ impl Output {
 
     /// Text is refused only where no memory is left for it.
     pub fn line(&mut self, answer: impl Display + Drop) -> anyhow::Result<()> {
-        writeln!(self.text, "{answer}").context("no memory is left for the answers")
+        writeln!(self.text, "{answer}").map_err(|_| anyhow!("no memory is left for the answers"))
     }
 }

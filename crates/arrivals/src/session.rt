@@ -70,9 +70,6 @@ impl<'a> Session<'a> {
 
     // Answers the line if it needs no sheet, and else says what it asks of one.
     fn step(&mut self) -> anyhow::Result<Option<Step>> {
-        if self.input.is_passed_over() {
-            return Ok(None);
-        }
         if self.input.is_too_long() {
             self.bad_line()?;
             return Ok(None);
@@ -96,6 +93,10 @@ impl<'a> Session<'a> {
         for _ in 0..u64::MAX {
             if !self.input.next_line(self.rt, &mut self.output)? {
                 return Ok(None);
+            }
+            // Here and not in `step`, so that a comment does not pay for the room that an answer takes.
+            if self.input.is_passed_over() {
+                continue;
             }
             let step = self.step()?;
             if step.is_some() {

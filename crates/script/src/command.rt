@@ -131,16 +131,23 @@ fn read_table<'a>(words: &mut Words<'a>) -> Option<Command<'a>>
     words.is_done().then_some(Command::Table(table))
 }
 
-// A table or a call, by the line's first word.
+#[tactic(auto, using(crate::proofs::Alike::told_apart))]
+fn is_table(word: &[u8]) -> bool
+    ensures { result ≡ alike word.now (codes "table") }
+{
+    matches!(word, b"table")
+}
+
+// A table or a call, by the line's first word, which is looked for once.
 fn read_words(line: &[u8]) -> Option<Command<'_>>
     ensures tables { alike (front (halves 32 line.now) line.now) (codes "table") ≡ true → option_map table_in result ≡ option_map Some (text_line line.now) }
     ensures calls { alike (front (halves 32 line.now) line.now) (codes "table") ≡ false → result ≡ call_line line.now }
 {
     let mut words = Words::new(line);
-    if words.take_word(b"table") {
+    let word = words.next()?;
+    if is_table(word) {
         return read_table(&mut words);
     }
-    let word = words.next()?;
     Some(Command::Call(read_call(word, &mut words)?))
 }
 
