@@ -1,3 +1,4 @@
 pub mod Rounding
 pub mod Words
 pub mod Pairs
+pub mod Beside

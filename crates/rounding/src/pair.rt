@@ -1,7 +1,9 @@
 // The pair of seconds and nanoseconds as one number to round.
 ghost use Rattle.std.specs.Prelude.{◌≡◌, ◌+◌, ◌*◌, ◌^◌, ◌<◌, pos, ◌<ℤ◌, unsigned_abs};
 ghost use Rattle.clock.specs.Instants.{worth};
+ghost use Rattle.rounding.specs.Beside.{beside_below};
 ghost use Rattle.rounding.specs.Rounding.{rounded_to};
+ghost use Rattle.std.proofs.Common.{rules};
 
 use crate::{IncrementRounder, Roundable, RoundingMode};
 use clock::Timespec;
@@ -9,9 +11,19 @@ use clock::Timespec;
 impl Roundable for Timespec {
     ghost value = { λ pair. worth pair };
 
-    ghost limit = { 2 ^ 63 * 1000000000 };
+    ghost room = { λ pair step. unsigned_abs (worth pair) + unsigned_abs (worth step) < 2 ^ 63 * 1000000000 };
+
+    ghost held = { λ z. unsigned_abs z < 2 ^ 63 * 1000000000 };
 
     ghost formed = { λ pair. pair.nanos < 1000000000 };
+
+    ghost reached = { λ pair step z _. beside_below (unsigned_abs (worth pair)) (unsigned_abs (worth step)) (unsigned_abs z) (2 ^ 63 * 1000000000) };
+
+    ghost may_turn = { Prim.search rules };
+
+    ghost turned = { Prim.search rules };
+
+    ghost narrow = { Prim.search rules };
 
     fn worth(self) -> i128 {
         i128::from(self)

@@ -1,32 +1,58 @@
 // What a number type gives so that its numbers can be rounded.
-ghost use Rattle.std.specs.Prelude.{◌≡◌, ℕ, ◌^◌, ◌<◌, ℤ, ⊤, unsigned_abs};
+ghost use Rattle.std.specs.Prelude.{◌≡◌, ◌+◌, ◌^◌, ◌<◌, ℤ, pos, neg_ℤ, ◌<ℤ◌, ⊤, unsigned_abs};
+ghost use Rattle.std.proofs.Common.{rules};
+ghost use Rattle.rounding.specs.Beside.{Beside, beside_below};
 
 pub trait Roundable: Copy {
     // what a number is worth
     ghost value: { Self → ℤ };
 
-    // numbers are worth any number nearer to zero than this
-    ghost limit: { ℕ };
+    // a dividend and a divisor that leave room to round up
+    ghost room: { Self → Self → Type 0 };
+
+    // a number can be made of this worth
+    ghost held: { ℤ → Type 0 };
 
     // a number is in the normal form of its worth
     ghost formed: { Self → Type 0 };
 
     fn worth(self) -> i128
-        ensures value { result ≡ value self }
-        ensures bound { unsigned_abs result < 2 ^ 126 };
+        ensures { result ≡ value self };
 
     fn of_worth(worth: i128) -> Self
-        requires { unsigned_abs worth < limit }
+        requires { held worth }
         ensures value { value result ≡ worth }
         ensures formed { formed result };
+
+    // where there is room, a multiple next to the dividend is held, with either sign
+    ghost reached: { (x n : Self) (z : ℤ) → pos 0 <ℤ value n → room x n → Beside (unsigned_abs (value x)) (unsigned_abs (value n)) (unsigned_abs z) → held z };
+
+    // where there is room, the dividend can be turned
+    ghost may_turn: { (x n : Self) → room x n → held (neg_ℤ (value x)) };
+
+    // and the turned one has the same room
+    ghost turned: { (x y n : Self) → value y ≡ neg_ℤ (value x) → room x n → room y n };
+
+    // what is held fits 128 bits, with either sign
+    ghost narrow: { (z : ℤ) → held z → unsigned_abs z < 2 ^ 127 };
 }
 
 impl Roundable for i64 {
     ghost value = { λ x. x };
 
-    ghost limit = { 2 ^ 63 };
+    ghost room = { λ x n. unsigned_abs x + unsigned_abs n < 2 ^ 63 };
+
+    ghost held = { λ z. unsigned_abs z < 2 ^ 63 };
 
     ghost formed = { λ _. ⊤ };
+
+    ghost reached = { λ x n z _. beside_below (unsigned_abs x) (unsigned_abs n) (unsigned_abs z) (2 ^ 63) };
+
+    ghost may_turn = { Prim.search rules };
+
+    ghost turned = { Prim.search rules };
+
+    ghost narrow = { Prim.search rules };
 
     fn worth(self) -> i128 {
         i128::from(self)

@@ -39,10 +39,9 @@ impl<N: Roundable> IncrementRounder<N> {
     }
 
     /// The number rounded: its size is, and its sign stays.
-    #[tactic(auto, using(crate::proofs::Signs::rounded_above, crate::proofs::Signs::rounded_below))]
     pub fn round(self, mode: RoundingMode) -> N
         requires holds { pos 0 <ℤ N.Roundable.value self.divisor }
-        requires room { unsigned_abs (N.Roundable.value self.dividend) + unsigned_abs (N.Roundable.value self.divisor) < N.Roundable.limit }
+        requires room { N.Roundable.room self.dividend self.divisor }
         ensures value { N.Roundable.value result ≡ rounded_to mode (N.Roundable.value self.dividend) (unsigned_abs (N.Roundable.value self.divisor)) }
         ensures near { unsigned_abs (N.Roundable.value result) < unsigned_abs (N.Roundable.value self.dividend) + unsigned_abs (N.Roundable.value self.divisor) }
         ensures formed { N.Roundable.formed result }
