@@ -1,6 +1,7 @@
 pub mod Upward
 pub mod Sides
 pub mod Neighbours
+pub mod Members
 pub mod Listed
 pub mod Walk
 pub mod Scan

@@ -87,11 +87,11 @@ module _ (f : ℤ → ℤ) (bounded : Bounded f) (L : ℤ) (n : ℕ) (from : ℤ
 
 -- ---- so there is one answer
 
-found_listed : (f : ℤ → ℤ) → Bounded f → (L : ℤ) (c : Candidates) → Found f L c → instants f L ≡ listed c
+pub found_listed : (f : ℤ → ℤ) → Bounded f → (L : ℤ) (c : Candidates) → Found f L c → instants f L ≡ listed c
 unfolding around
 found_listed f bounded L c found = kept f bounded L 172799 (L -ℤ pos 86399) (omega (arith, ints)) (omega (arith, ints)) c found
 
-gap_change : (f : ℤ → ℤ) → Bounded f → Spaced f → (L c before after : ℤ) → Found f L (Gap c before after) → change_over f L ≡ c
+pub gap_change : (f : ℤ → ℤ) → Bounded f → Spaced f → (L c before after : ℤ) → Found f L (Gap c before after) → change_over f L ≡ c
 unfolding around
 gap_change f bounded spaced L c before after found = gap_kept f bounded L 172799 (L -ℤ pos 86399) (omega (arith, ints)) (omega (arith, ints)) spaced c before after found
 

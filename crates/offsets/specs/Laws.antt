@@ -1,8 +1,9 @@
 -- What the two laws of offsets bring about, whatever the offsets.
-use Rattle.std.specs.Prelude.{◌≡◌, ℤ, pos, ◌+ℤ◌, ◌-ℤ◌, ◌≤ℤ◌, ◌<ℤ◌}
+use Rattle.std.specs.Prelude.{◌≡◌, List, ℤ, pos, ◌+ℤ◌, ◌-ℤ◌, ◌≤ℤ◌, ◌<ℤ◌}
 use Rattle.offsets.specs.Offsets.{Bounded, Changes, Spaced, Apart}
 use Rattle.offsets.specs.Readers.{Reads, Leaps, Found}
-use Rattle.offsets.specs.Possible.{candidates_at}
+use Rattle.offsets.specs.Possible.{possible, candidates_at}
+use Rattle.offsets.specs.Members.{In, Ascending}
 use Rattle.offsets.specs.Starts.{Starts}
 use Rattle.offsets.specs.declared.Candidates.{Candidates}
 
@@ -45,6 +46,13 @@ OneAnswer = (f : ℤ → ℤ) → Bounded f → Spaced f → (L : ℤ) (x : Cand
 -- There always is one, whatever the lawful offsets.
 abbrev pub SomeAnswer : Type 0
 SomeAnswer = (f : ℤ → ℤ) → Bounded f → Spaced f → (L : ℤ) → Found f L (candidates_at f L)
+
+-- The list of possible instants is ascending and has just the instants that read the local time, and no other list is so.
+pub record JustReaders : Type 0 where
+  pub ascends : (f : ℤ → ℤ) (L : ℤ) → Ascending (possible f L)
+  pub reads : (f : ℤ → ℤ) (L t : ℤ) → In (possible f L) t → Reads f L t
+  pub all : (f : ℤ → ℤ) → Bounded f → (L t : ℤ) → Reads f L t → In (possible f L) t
+  pub alone : (f : ℤ → ℤ) → Bounded f → (L : ℤ) (xs : List ℤ) → Ascending xs → ((t : ℤ) → In xs t → Reads f L t) → ((t : ℤ) → Reads f L t → In xs t) → xs ≡ possible f L
 
 -- ---- a local time in a gap, from the offset b to a, moved by the jump
 

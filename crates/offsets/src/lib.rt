@@ -3,7 +3,7 @@
 
 ghost use Rattle.std.specs.Prelude.{◌≡◌, ◌≤◌, ◌-ℤ◌, unsigned_abs};
 ghost use Rattle.offsets.specs.Ends.{first_of, last_of};
-ghost use Rattle.offsets.specs.Laws.{AllApart, AtMostTwo, TwoByOne, GapOrReader, OneGap, OneAnswer, SomeAnswer, MovedTimes, Beginnings};
+ghost use Rattle.offsets.specs.Laws.{AllApart, AtMostTwo, TwoByOne, GapOrReader, OneGap, OneAnswer, SomeAnswer, JustReaders, MovedTimes, Beginnings};
 
 /// The seconds that are asked about are those from -SPAN to SPAN.
 pub const SPAN: i64 = 8_640_000_259_200;
@@ -84,6 +84,7 @@ pub fn laws_hold()
     ensures one_gap { OneGap }
     ensures one_answer { OneAnswer }
     ensures some_answer { SomeAnswer }
+    ensures just_readers { JustReaders }
     ensures moved_times { MovedTimes }
     ensures beginnings { Beginnings }
 {}

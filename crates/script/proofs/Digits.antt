@@ -5,7 +5,7 @@ use Rattle.std.specs.Option.{option_and_then}
 use Rattle.script.specs.Numbers.{digit, all_digits, worth_from, decimal, below, one_more}
 
 -- What a run of digits is worth is at least what stood before it.
-grows : (v : ℕ) (bs : List ℕ) → v ≤ worth_from v bs
+pub grows : (v : ℕ) (bs : List ℕ) → v ≤ worth_from v bs
 grows v [] = le_refl v
 grows v (b ∷ bs) = let h : v * 10 + (b - 48) ≤ worth_from (v * 10 + (b - 48)) bs = grows (v * 10 + (b - 48)) bs in omega arith
 

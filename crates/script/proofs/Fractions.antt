@@ -24,10 +24,13 @@ few_digits bs h = within (2 ^ 64) (decimal bs) (λ w e. lt_of_lt_of_le (decimal_
 pub two_digits : (bs : List ℕ) (w : ℕ) → length bs ≤ 2 → decimal bs ≡ Some w → w < 100
 two_digits bs w h e = decimal_below bs 2 w h e
 
-pub scaled_below : (bs : List ℕ) (v : ℕ) → length bs ≤ 9 → decimal bs ≡ Some v → v * 10 ^ (9 - length bs) < 1000000000
-scaled_below bs v h d =
-    let p : 1 ≤ 10 ^ (9 - length bs) = pow-le-pow_right {n = 10} (lit< tt) zero-le in
-    let s : length bs + (9 - length bs) ≡ 9 = omega arith in
-    let e : 10 ^ length bs * 10 ^ (9 - length bs) ≡ 1000000000 = sym (pow-add 10 (length bs) (9 - length bs)) ∙ ap (λ k. 10 ^ k) s in
-    let l : v < 10 ^ length bs = decimal_below bs (length bs) v (le_refl (length bs)) d in
-    subst (λ (m : ℕ). v * 10 ^ (9 - length bs) < m) e (mul-lt-mul_of_pos_right l p)
+-- A fraction of n digits is less than a second, in nanoseconds.
+pub scaled_below : (n v : ℕ) → n ≤ 9 → v < 10 ^ n → v * 10 ^ (9 - n) < 1000000000
+scaled_below n v h l =
+    let p : 1 ≤ 10 ^ (9 - n) = pow-le-pow_right {n = 10} (lit< tt) zero-le in
+    let s : n + (9 - n) ≡ 9 = omega arith in
+    let e : 10 ^ n * 10 ^ (9 - n) ≡ 1000000000 = sym (pow-add 10 n (9 - n)) ∙ ap (λ k. 10 ^ k) s in
+    subst (λ (m : ℕ). v * 10 ^ (9 - n) < m) e (mul-lt-mul_of_pos_right l p)
+
+pub fraction_below : (bs : List ℕ) (v : ℕ) → length bs ≤ 9 → decimal bs ≡ Some v → v * 10 ^ (9 - length bs) < 1000000000
+fraction_below bs v h d = scaled_below (length bs) v h (decimal_below bs (length bs) v (le_refl (length bs)) d)

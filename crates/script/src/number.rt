@@ -72,7 +72,7 @@ pub(crate) fn short(text: &[u8]) -> Option<u8>
 }
 
 // The nanoseconds of a fraction of a second with one to nine digits.
-#[tactic(auto, using(crate::proofs::Fractions::few_digits, crate::proofs::Fractions::scaled_below))]
+#[tactic(auto, using(crate::proofs::Fractions::few_digits, crate::proofs::Fractions::fraction_below))]
 pub(crate) fn fraction(text: &[u8]) -> Option<u32>
     ensures { result ≡ fraction_of text.now }
 {

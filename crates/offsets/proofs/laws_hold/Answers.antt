@@ -3,6 +3,7 @@ use Rattle.std.proofs.Common.{sym, ◌∙◌, arith}
 use Rattle.std.proofs.lemmas.Int.{ints}
 use Rattle.offsets.proofs.Neighbours.{spaced_apart}
 use Rattle.offsets.proofs.Sides.{only_gap}
+use Rattle.offsets.proofs.Members.{just_readers}
 use Rattle.offsets.proofs.Listed.{determined}
 use Rattle.offsets.proofs.Walk.{doubled, no_three}
 use Rattle.offsets.proofs.Scan.{begins, no_reader_gap, gap_no_reader, gap_starts, first_starts, starts_rise}
@@ -20,6 +21,7 @@ returns c =
       one_gap = λ f s L c b a d e g h k. only_gap f (spaced_apart f s) L c (omega (arith, ints)) (omega (arith, ints)) d (omega (arith, ints)) (omega (arith, ints));
       one_answer = determined;
       some_answer = answered;
+      just_readers = just_readers;
       moved_times = λ f s. moved_once f (spaced_apart f s);
       beginnings = record { some = begins; reader = λ f b s. first_starts f b (spaced_apart f s); leap = λ f s. gap_starts f (spaced_apart f s); rise = starts_rise };
     }
