@@ -61,10 +61,10 @@ impl<P: Provider> Sheet<P> {
         ensures right { IfOk result (λ a. OffsetIs (P.means self.old.provider) a.zone a.instant.seconds a.offset) }
         ensures keeps { self.new.provider ≡ self.old.provider }
     {
-        let place = Berth::try_from(berth)?;
+        let slot = Berth::try_from(berth)?;
         let provider = &self.provider;
         let arrival = SetCall { provider, request }.arrival_at(berth)?;
-        self.berths.put(place, Some(arrival));
+        self.berths.put(slot, Some(arrival));
         Ok(arrival)
     }
 
