@@ -1,4 +1,5 @@
-// Rounding to an increment: one text for every number type that can be rounded, the sign kept apart, nine modes.
+// Rounding to an increment: one text for every number type that can be rounded, the sign kept apart, nine modes. Every type is rounded by
+// `WideRounder`; `IncrementRounder` asks of a caller a type's limit alone.
 #![tactic(auto)]
 
 ghost use Rattle.std.specs.Prelude.{◌≡◌};
@@ -6,15 +7,23 @@ ghost use Rattle.rounding.specs.Rounding.{unsigned_of};
 ghost use Rattle.rounding.specs.Words.{RoundsAsAsked, OneAnswer, NoneNearer};
 ghost use Rattle.rounding.specs.Pairs.{OnePair};
 
+mod count;
+mod limited;
+mod limited_pair;
+mod limited_rounder;
 mod pair;
 mod quotient;
 mod roundable;
 mod rounder;
+#[cfg(test)]
+mod tests;
 
+pub use limited::Roundable;
+pub use limited_rounder::IncrementRounder;
 pub use pair::round_timespec;
 pub use quotient::Quotient;
-pub use roundable::Roundable;
-pub use rounder::IncrementRounder;
+pub use roundable::WideRoundable;
+pub use rounder::WideRounder;
 
 #[derive(Clone, Copy, Debug, PartialEq, Eq)]
 pub enum RoundingMode {

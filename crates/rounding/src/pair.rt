@@ -5,10 +5,10 @@ ghost use Rattle.rounding.specs.Beside.{beside_below};
 ghost use Rattle.rounding.specs.Rounding.{rounded_to};
 ghost use Rattle.std.proofs.Common.{rules};
 
-use crate::{IncrementRounder, Roundable, RoundingMode};
+use crate::{RoundingMode, WideRoundable, WideRounder};
 use clock::Timespec;
 
-impl Roundable for Timespec {
+impl WideRoundable for Timespec {
     ghost value = { λ pair. worth pair };
 
     ghost room = { λ pair step. unsigned_abs (worth pair) + unsigned_abs (worth step) < 2 ^ 63 * 1000000000 };
@@ -45,5 +45,5 @@ pub fn round_timespec(number: Timespec, increment: Timespec, mode: RoundingMode)
     ensures value { worth result ≡ rounded_to mode (worth number) (unsigned_abs (worth increment)) }
     ensures formed { result.nanos < 1000000000 }
 {
-    IncrementRounder::from_signed_num(number, increment).round(mode)
+    WideRounder::from_signed_num(number, increment).round(mode)
 }

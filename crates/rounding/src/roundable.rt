@@ -1,9 +1,9 @@
-// What a number type gives so that its numbers can be rounded.
+// What a number type gives so that its numbers can be rounded, where it says itself which worths it holds.
 ghost use Rattle.std.specs.Prelude.{◌≡◌, ◌+◌, ◌^◌, ◌<◌, ℤ, pos, neg_ℤ, ◌<ℤ◌, ⊤, unsigned_abs};
 ghost use Rattle.std.proofs.Common.{rules};
 ghost use Rattle.rounding.specs.Beside.{Beside, beside_below};
 
-pub trait Roundable: Copy {
+pub trait WideRoundable: Copy {
     // what a number is worth
     ghost value: { Self → ℤ };
 
@@ -37,7 +37,7 @@ pub trait Roundable: Copy {
     ghost narrow: { (z : ℤ) → held z → unsigned_abs z < 2 ^ 127 };
 }
 
-impl Roundable for i64 {
+impl WideRoundable for i64 {
     ghost value = { λ x. x };
 
     ghost room = { λ x n. unsigned_abs x + unsigned_abs n < 2 ^ 63 };

@@ -1,37 +1,37 @@
 // A number and an increment, to be rounded by any mode.
 ghost use Rattle.std.specs.Prelude.{◌≡◌, ◌+◌, ◌<◌, not, pos, ◌<ℤ◌, int_lt, unsigned_abs, ⊤};
 
-use crate::{Quotient, Roundable, RoundingMode};
+use crate::{Quotient, RoundingMode, WideRoundable};
 use std::alloc::AllocError;
 
-pub struct IncrementRounder<N: Roundable> {
+pub struct WideRounder<N: WideRoundable> {
     // Told once, as the proposal does before it takes the size; the ghost field ties it to the dividend.
     pub positive: bool,
     pub dividend: N,
     pub divisor: N,
-    ghost signed: { positive ≡ not (int_lt (N.Roundable.value dividend) (pos 0)) },
+    ghost signed: { positive ≡ not (int_lt (N.WideRoundable.value dividend) (pos 0)) },
 }
 
 // By hand, since a derive is refused on a generic struct with a ghost field.
-impl<N: Roundable> Clone for IncrementRounder<N> {
+impl<N: WideRoundable> Clone for WideRounder<N> {
     ghost is_clone = { λ x y. y ≡ x };
 
     ghost is_infallible = { λ _. ⊤ };
 
-    fn clone(&self) -> Result<IncrementRounder<N>, AllocError> {
+    fn clone(&self) -> Result<WideRounder<N>, AllocError> {
         Ok(*self)
     }
 }
 
-impl<N: Roundable> Copy for IncrementRounder<N> {}
+impl<N: WideRoundable> Copy for WideRounder<N> {}
 
-impl<N: Roundable> IncrementRounder<N> {
+impl<N: WideRoundable> WideRounder<N> {
     ghost use Rattle.rounding.specs.Rounding.{rounded_to};
 
-    pub fn from_signed_num(number: N, increment: N) -> IncrementRounder<N>
-        ensures { (result.positive ≡ not (int_lt (N.Roundable.value number) (pos 0))) × (result.dividend ≡ number) × (result.divisor ≡ increment) }
+    pub fn from_signed_num(number: N, increment: N) -> WideRounder<N>
+        ensures { (result.positive ≡ not (int_lt (N.WideRoundable.value number) (pos 0))) × (result.dividend ≡ number) × (result.divisor ≡ increment) }
     {
-        IncrementRounder {
+        WideRounder {
             positive: number.worth() >= 0,
             dividend: number,
             divisor: increment,
@@ -40,11 +40,11 @@ impl<N: Roundable> IncrementRounder<N> {
 
     /// The number rounded: its size is, and its sign stays.
     pub fn round(self, mode: RoundingMode) -> N
-        requires holds { pos 0 <ℤ N.Roundable.value self.divisor }
-        requires room { N.Roundable.room self.dividend self.divisor }
-        ensures value { N.Roundable.value result ≡ rounded_to mode (N.Roundable.value self.dividend) (unsigned_abs (N.Roundable.value self.divisor)) }
-        ensures near { unsigned_abs (N.Roundable.value result) < unsigned_abs (N.Roundable.value self.dividend) + unsigned_abs (N.Roundable.value self.divisor) }
-        ensures formed { N.Roundable.formed result }
+        requires holds { pos 0 <ℤ N.WideRoundable.value self.divisor }
+        requires room { N.WideRoundable.room self.dividend self.divisor }
+        ensures value { N.WideRoundable.value result ≡ rounded_to mode (N.WideRoundable.value self.dividend) (unsigned_abs (N.WideRoundable.value self.divisor)) }
+        ensures near { unsigned_abs (N.WideRoundable.value result) < unsigned_abs (N.WideRoundable.value self.dividend) + unsigned_abs (N.WideRoundable.value self.divisor) }
+        ensures formed { N.WideRoundable.formed result }
     {
         let quotient = Quotient {
             dividend: self.dividend.worth().unsigned_abs(),

@@ -7,7 +7,7 @@ ghost use Rattle.rounding.specs.Rounding.{rounded_to};
 ghost use Rattle.time_rounding.specs.Times.{unit_length, in_larger, allowed_increment, nanos_of_day, rounded_nanos, RoundsWithinOne, RoundsTheWhole, OneReading};
 
 use clock::IsoTime;
-use rounding::{IncrementRounder, RoundingMode};
+use rounding::{RoundingMode, WideRounder};
 
 #[derive(Clone, Copy, Debug, PartialEq, Eq)]
 pub enum TimeUnit {
@@ -94,7 +94,7 @@ fn rounded(count: u64, increment: u64, mode: RoundingMode) -> u64
     ensures bound { result < count + increment }
 {
     // The casts lose nothing, which is proved; `try_from` would add branches that never come.
-    IncrementRounder::from_signed_num(count as i64, increment as i64).round(mode) as u64
+    WideRounder::from_signed_num(count as i64, increment as i64).round(mode) as u64
 }
 
 /// A time of day rounded, and the days that it carries.

@@ -11,7 +11,7 @@ use crate::{EpochNanosecondsAndOffset, OffsetDisambiguation, Request, ZonedFault
 use clock::{LocalTimespec, Timespec, is_valid_epoch};
 use offsets::{Candidate, Candidates};
 use provider::Provider;
-use rounding::{IncrementRounder, RoundingMode};
+use rounding::{RoundingMode, WideRounder};
 use time_zone::lookup::ZoneLookup;
 use time_zone::possible::is_valid_day_range;
 
@@ -19,7 +19,7 @@ use time_zone::possible::is_valid_day_range;
 fn rounded_to_minutes(offset: i32) -> i64
     ensures { result ≡ rounded_to HalfExpand offset 60 }
 {
-    IncrementRounder::from_signed_num(i64::from(offset), 60).round(RoundingMode::HalfExpand)
+    WideRounder::from_signed_num(i64::from(offset), 60).round(RoundingMode::HalfExpand)
 }
 
 // Whether a candidate's offset is the given one, or rounds to it in whole minutes where minutes are matched.
