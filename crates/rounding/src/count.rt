@@ -22,11 +22,11 @@ impl WideRoundable for i128 {
 
     ghost narrow = { Prim.search rules };
 
-    fn worth(self) -> i128 {
+    fn wide_worth(self) -> i128 {
         self
     }
 
-    fn of_worth(worth: i128) -> i128 {
+    fn of_wide_worth(worth: i128) -> i128 {
         worth
     }
 }

@@ -1,5 +1,5 @@
-// Rounding to an increment: one text for every number type that can be rounded, the sign kept apart, nine modes. Every type is rounded by
-// `WideRounder`; `IncrementRounder` asks of a caller a type's limit alone.
+// Rounding to an increment: one text for every number type that can be rounded, the sign kept apart, nine modes.
+// `WideRounder` rounds; `IncrementRounder` is for callers who know a type's limit alone, and has it round what their numbers are worth.
 #![tactic(auto)]
 
 ghost use Rattle.std.specs.Prelude.{◌≡◌};

@@ -32,10 +32,10 @@ impl Roundable for i64 {
     ghost formed = { λ _. ⊤ };
 
     fn worth(self) -> i128 {
-        WideRoundable::worth(self)
+        self.wide_worth()
     }
 
     fn of_worth(worth: i128) -> i64 {
-        WideRoundable::of_worth(worth)
+        i64::of_wide_worth(worth)
     }
 }

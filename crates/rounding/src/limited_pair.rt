@@ -13,10 +13,10 @@ impl Roundable for Timespec {
     ghost formed = { λ pair. pair.nanos < 1000000000 };
 
     fn worth(self) -> i128 {
-        WideRoundable::worth(self)
+        self.wide_worth()
     }
 
     fn of_worth(worth: i128) -> Timespec {
-        WideRoundable::of_worth(worth)
+        Timespec::of_wide_worth(worth)
     }
 }

@@ -4,6 +4,7 @@ ghost use Rattle.std.specs.Prelude.{◌≡◌, ◌+◌, ◌<◌, not, pos, ◌<�
 use crate::{Roundable, RoundingMode, WideRounder};
 use std::alloc::AllocError;
 
+// A type of its own, since `WideRounder` asks for a `WideRoundable`.
 pub struct IncrementRounder<N: Roundable> {
     // Told once, as in `WideRounder`.
     pub positive: bool,

@@ -25,11 +25,11 @@ impl WideRoundable for Timespec {
 
     ghost narrow = { Prim.search rules };
 
-    fn worth(self) -> i128 {
+    fn wide_worth(self) -> i128 {
         i128::from(self)
     }
 
-    fn of_worth(worth: i128) -> Timespec {
+    fn of_wide_worth(worth: i128) -> Timespec {
         // The casts lose nothing, which is proved; `try_from` would add branches that never come.
         Timespec {
             seconds: worth.div_euclid(1_000_000_000) as i64,

@@ -16,10 +16,10 @@ pub trait WideRoundable: Copy {
     // a number is in the normal form of its worth
     ghost formed: { Self → Type 0 };
 
-    fn worth(self) -> i128
+    fn wide_worth(self) -> i128
         ensures { result ≡ value self };
 
-    fn of_worth(worth: i128) -> Self
+    fn of_wide_worth(worth: i128) -> Self
         requires { held worth }
         ensures value { value result ≡ worth }
         ensures formed { formed result };
@@ -54,11 +54,11 @@ impl WideRoundable for i64 {
 
     ghost narrow = { Prim.search rules };
 
-    fn worth(self) -> i128 {
+    fn wide_worth(self) -> i128 {
         i128::from(self)
     }
 
-    fn of_worth(worth: i128) -> i64 {
+    fn of_wide_worth(worth: i128) -> i64 {
         // The cast loses nothing, which is proved; `try_from` would add a branch that never comes.
         worth as i64
     }

@@ -32,7 +32,7 @@ impl<N: WideRoundable> WideRounder<N> {
         ensures { (result.positive ≡ not (int_lt (N.WideRoundable.value number) (pos 0))) × (result.dividend ≡ number) × (result.divisor ≡ increment) }
     {
         WideRounder {
-            positive: number.worth() >= 0,
+            positive: number.wide_worth() >= 0,
             dividend: number,
             divisor: increment,
         }
@@ -47,14 +47,14 @@ impl<N: WideRoundable> WideRounder<N> {
         ensures formed { N.WideRoundable.formed result }
     {
         let quotient = Quotient {
-            dividend: self.dividend.worth().unsigned_abs(),
-            divisor: self.divisor.worth().unsigned_abs(),
+            dividend: self.dividend.wide_worth().unsigned_abs(),
+            divisor: self.divisor.wide_worth().unsigned_abs(),
         };
         // The cast loses nothing, which is proved; `try_from` would add a branch that never comes.
         let size = quotient.rounded(mode.at_sign(self.positive)) as i128;
         if self.positive {
-            return N::of_worth(size);
+            return N::of_wide_worth(size);
         }
-        N::of_worth(-size)
+        N::of_wide_worth(-size)
     }
 }

@@ -7,7 +7,7 @@ use clock::Timespec;
 use std::test::Fail;
 
 // At any number type with a limit.
-fn rounded<N: Roundable>(number: N, step: N, mode: RoundingMode) -> N
+fn round_limited<N: Roundable>(number: N, step: N, mode: RoundingMode) -> N
     requires holds { pos 0 <ℤ N.Roundable.value step }
     requires room { unsigned_abs (N.Roundable.value number) + unsigned_abs (N.Roundable.value step) < N.Roundable.limit }
     ensures value { N.Roundable.value result ≡ rounded_to mode (N.Roundable.value number) (unsigned_abs (N.Roundable.value step)) }
@@ -23,9 +23,9 @@ fn doubled<N: Roundable>(number: N) -> i128 {
 
 #[test]
 fn rounds_below_a_limit(rt: HostRuntime) -> Result<(), Fail> {
-    assert_eq!(rt; rounded(25_i64, 10, RoundingMode::HalfEven), 20);
-    assert_eq!(rt; rounded(-25_i64, 10, RoundingMode::HalfExpand), -30);
-    assert_eq!(rt; rounded(-25_i64, 10, RoundingMode::Ceil), -20);
+    assert_eq!(rt; round_limited(25_i64, 10, RoundingMode::HalfEven), 20);
+    assert_eq!(rt; round_limited(-25_i64, 10, RoundingMode::HalfExpand), -30);
+    assert_eq!(rt; round_limited(-25_i64, 10, RoundingMode::Ceil), -20);
     let number = Timespec {
         seconds: -2,
         nanos: 500_000_000,

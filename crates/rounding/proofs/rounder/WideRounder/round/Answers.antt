@@ -24,9 +24,9 @@ overflow_cast-size g c =
     let f = fits g (goal.at.overflow_cast-size g c).After-rounded-size in
     omega (arith, ints)
 
-pub of_worth-requires : goal.of_worth-requires
-of_worth-requires g c =
-    let a = (goal.at.of_worth-requires g c).After-rounded-size in
+pub of_wide_worth-requires : goal.of_wide_worth-requires
+of_wide_worth-requires g c =
+    let a = (goal.at.of_wide_worth-requires g c).After-rounded-size in
     let f = fits g a in
     held g a _ (omega (arith, ints))
 
@@ -40,9 +40,9 @@ overflow_sub-size g c =
     let f = fits g (goal.at.overflow_sub-size g c).After-rounded-size in
     omega (arith, ints)
 
-pub of_worth-requires-2 : goal.of_worth-requires-2
-of_worth-requires-2 g c =
-    let a = (goal.at.of_worth-requires-2 g c).After-rounded-size in
+pub of_wide_worth-requires-2 : goal.of_wide_worth-requires-2
+of_wide_worth-requires-2 g c =
+    let a = (goal.at.of_wide_worth-requires-2 g c).After-rounded-size in
     let f = fits g a in
     held g a _ (omega (arith, ints))
 
